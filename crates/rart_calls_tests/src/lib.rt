@@ -1,21 +1,12 @@
-//! Tests of the calls of the map: rows of calls with the replies wanted, played in each form, with ample memory, with
-//! each request for memory refused in turn, and where nothing may be requested; and edits with callbacks, and with
-//! values whose clone fails.
+//! Tests of calls of the map that no row can make: with values that count their drops, whose clone fails or requests
+//! memory, with keys made of texts and numbers, and on trees that are not compared as rows do.
 //!
-//! Nothing depends on this crate, and it is no part of the product. The other tests of the map are in `rart_tests`,
-//! `rart_iterators_tests`, `rart_walks_tests` and `rart_joins_tests`, which are proved beside it.
+//! Nothing depends on this crate, and it is no part of the product. The rows of calls are in `tests/`. Other tests of
+//! the map are in `rart_tests`, `rart_iterators_tests`, `rart_walks_tests` and `rart_joins_tests`.
 #![tactic(auto)]
 
 #[cfg(test)]
 mod no_requests;
-#[cfg(test)]
-mod play;
-#[cfg(test)]
-mod probes;
-#[cfg(test)]
-mod refused_in_turn;
-#[cfg(test)]
-mod replies;
 #[cfg(test)]
 mod retained;
 #[cfg(test)]
@@ -26,7 +17,3 @@ mod texts;
 mod uncloned;
 #[cfg(test)]
 mod updates;
-#[cfg(test)]
-mod widths;
-#[cfg(test)]
-mod with_memory;

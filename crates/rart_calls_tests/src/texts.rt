@@ -1,81 +1,8 @@
 //! Keys made of texts and numbers.
 
-use crate::play::{Ask, Row, Want, assert_none_wrong, first_wrong_text};
 use rart::script::{Call, Reply, step};
 use rart::{AdaptiveRadixTree, ArrayKey};
 use std::alloc::Global;
-
-static LATEST: [Row<'static>; 3] = [
-    (Ask::Insert("key1", 100), Want::None),
-    (Ask::Insert("key1", 200), Want::Some(100)),
-    (Ask::Get("key1"), Want::Some(200)),
-];
-
-#[test]
-fn a_text_gives_its_latest_value(rt: HostRuntime) {
-    assert_none_wrong(&rt, first_wrong_text::<ArrayKey<16>>(rt.alloc(), &LATEST));
-}
-
-static BEGINNINGS: [Row<'static>; 4] = [
-    (Ask::Insert("a", 1), Want::None),
-    (Ask::Insert("ab", 2), Want::None),
-    (Ask::Insert("abc", 3), Want::None),
-    (Ask::Values, Want::Values(&[1, 2, 3])),
-];
-
-#[test]
-fn values_of_texts_that_begin_one_another(rt: HostRuntime) {
-    assert_none_wrong(
-        &rt,
-        first_wrong_text::<ArrayKey<16>>(rt.alloc(), &BEGINNINGS),
-    );
-}
-
-static AMONG_OTHERS: [Row<'static>; 14] = [
-    (Ask::Insert("abcd", 1), Want::None),
-    (Ask::Insert("abc", 2), Want::None),
-    (Ask::Insert("abcde", 3), Want::None),
-    (Ask::Insert("xyz", 4), Want::None),
-    (Ask::Insert("xyz", 5), Want::Some(4)),
-    (Ask::Insert("axyz", 6), Want::None),
-    (Ask::Insert("1245zzz", 6), Want::None),
-    (Ask::Len, Want::Len(6)),
-    (Ask::Remove("abcde"), Want::Some(3)),
-    (Ask::Remove("abc"), Want::Some(2)),
-    (Ask::Get("abcd"), Want::Some(1)),
-    (Ask::Get("axyz"), Want::Some(6)),
-    (Ask::Get("xyz"), Want::Some(5)),
-    (
-        Ask::Iter,
-        Want::Pairs(&[("1245zzz", 6), ("abcd", 1), ("axyz", 6), ("xyz", 5)]),
-    ),
-];
-
-#[test]
-fn texts_removed_among_others(rt: HostRuntime) {
-    assert_none_wrong(
-        &rt,
-        first_wrong_text::<ArrayKey<16>>(rt.alloc(), &AMONG_OTHERS),
-    );
-}
-
-static WORDS: [Row<'static>; 6] = [
-    (Ask::Insert("cat", 1), Want::None),
-    (Ask::Insert("catalog", 2), Want::None),
-    (
-        Ask::Prefix("cat"),
-        Want::Pairs(&[("cat", 1), ("catalog", 2)]),
-    ),
-    (Ask::Longest("cats"), Want::Pair("cat", 1)),
-    // a text of full width
-    (Ask::Insert("catalogue_no_001", 3), Want::None),
-    (Ask::Len, Want::Len(3)),
-];
-
-#[test]
-fn a_text_begins_the_texts_that_go_on(rt: HostRuntime) {
-    assert_none_wrong(&rt, first_wrong_text::<ArrayKey<16>>(rt.alloc(), &WORDS));
-}
 
 type Key = ArrayKey<16>;
 

@@ -1,10 +1,8 @@
 //! Iterators of the map, and look-ups and walks of a tree that is seen.
 
 use rart::{
-    AdaptiveRadixTree, ArrPartial, ArrayKey, Iter, KeyTrait, Seen, SeenIter, TreeError, ValuesIter,
-    Visits,
+    AdaptiveRadixTree, ArrPartial, ArrayKey, Iter, KeyTrait, Seen, SeenIter, ValuesIter, Visits,
 };
-use rart_test_tools::refusals::{refuse, was_refused};
 use std::alloc::Global;
 use std::panic::Expect;
 
@@ -177,58 +175,4 @@ fn gives_five_counted(tree: &Tree) -> bool {
 fn a_counted_iteration_answers_as_the_plain_one(rt: HostRuntime) {
     let tree = filled(rt.alloc()).expect(&rt, "a tree");
     assert!(rt; gives_five_counted(&tree));
-}
-
-// Whether an iterator with this request refused says `Memory`, or gives all pairs as none was refused. It answers
-// whether one was.
-fn pairs_are_refused_well(alloc: Global, tree: &Tree, at: usize) -> Option<bool> {
-    refuse(alloc, at);
-    let answer = tree.iter();
-    let refused = was_refused(alloc);
-    let well = match answer {
-        Ok(mut pairs) => !refused && are_five(&mut pairs),
-        Err(error) => refused && error == TreeError::Memory,
-    };
-    well.then_some(refused)
-}
-
-// The same of an iterator over values.
-fn values_are_refused_well(alloc: Global, tree: &Tree, at: usize) -> Option<bool> {
-    refuse(alloc, at);
-    let answer = tree.values_iter();
-    let refused = was_refused(alloc);
-    let well = match answer {
-        Ok(mut values) => !refused && ascend(&mut values, 5),
-        Err(error) => refused && error == TreeError::Memory,
-    };
-    well.then_some(refused)
-}
-
-// Each request of an iterator refused in turn, and at last none. After a refusal another iterator gives all pairs.
-fn are_swept(alloc: Global, tree: &Tree, over_values: bool) -> bool {
-    for at in 1..10_usize {
-        let refused = if over_values {
-            values_are_refused_well(alloc, tree, at)
-        } else {
-            pairs_are_refused_well(alloc, tree, at)
-        };
-        match refused {
-            Some(true) if gives_five(tree) => {}
-            Some(refused) => return !refused,
-            None => return false,
-        }
-    }
-    false
-}
-
-#[test]
-fn iterators_refused_in_turn(rt: HostRuntime) {
-    let tree = filled(rt.alloc()).expect(&rt, "a tree");
-    assert!(rt; are_swept(rt.alloc(), &tree, false));
-}
-
-#[test]
-fn iterators_over_values_refused_in_turn(rt: HostRuntime) {
-    let tree = filled(rt.alloc()).expect(&rt, "a tree");
-    assert!(rt; are_swept(rt.alloc(), &tree, true));
 }

@@ -1,4 +1,4 @@
-//! Intersections of wide nodes and of trees of two value types, their law, their counted calls, and the cuts of their
+//! Intersections of wide nodes and of trees of two value types, their law, their counted calls, and the cuts of counted
 //! views.
 
 mod counted;
@@ -14,12 +14,6 @@ use std::alloc::Global;
 /// What is checked of two trees.
 #[derive(Clone, Copy)]
 pub enum Check {
-    // all plain calls, from both sides
-    All,
-    // the calls that allocate nothing, with the next request refused
-    Quiet,
-    // the calls that allocate, with each request refused in turn
-    Refused,
     // the counted calls
     Counted,
     // the law
@@ -30,9 +24,6 @@ pub enum Check {
 
 fn is_right(alloc: Global, left: &Tree, right: &Tree, wanted: &[Triple], check: Check) -> bool {
     match check {
-        Check::All => rows::is_intersection(left, right, wanted),
-        Check::Quiet => rows::makes_no_request(alloc, left, right, wanted),
-        Check::Refused => rows::are_swept(alloc, left, right, wanted),
         Check::Counted => counted::are_those_of_plain_calls(left, right, wanted),
         Check::Law => laws::gives_both_ways(left, right, wanted),
         Check::LawRefused => laws::law_is_swept(alloc, left, right, wanted),

@@ -1,10 +1,9 @@
-//! Tests of what reads two trees (intersections, `==` and clones), and of the route table.
+//! Tests of intersections, `==` and route tables that no row can make: laws, counted calls, and values that are no
+//! numbers. The rows are in `tests/`.
 //!
 //! Nothing depends on this crate, and it is no part of the product.
 #![tactic(auto)]
 
-#[cfg(test)]
-mod clones;
 #[cfg(test)]
 mod equal;
 #[cfg(test)]

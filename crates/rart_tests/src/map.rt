@@ -1,10 +1,8 @@
 //! Tests of the map.
 
-mod appended;
 mod calls;
 mod clones;
 mod drops;
-mod ends;
 mod errors;
 mod laws;
 mod migrations;
@@ -12,5 +10,5 @@ mod names;
 mod no_requests;
 mod sizes;
 mod taken_in_turn;
-mod taken_prefixes;
+mod taken_visits;
 mod words;

@@ -4,7 +4,7 @@ ghost use Rattle.std.specs.Prelude.{IfOk};
 ghost use Rattle.std.specs.Iterator.{IsFinite};
 
 use crate::visits::with_digit;
-use rart::{KeyTrait, TreeError};
+use rart::TreeError;
 use rart_test_trees::texts::Key;
 
 /// How many items are left.
@@ -41,32 +41,4 @@ pub fn digits<'a, I: Iterator<Item = (Key, &'a u64)>>(pairs: &mut I) -> u64
         seen = with_digit(seen, *value);
     }
     seen
-}
-
-// Whether the pairs that come next are these.
-fn are_next<'a, I: Iterator<Item = (Key, &'a u64)>>(pairs: &mut I, wanted: &[(&str, u64)]) -> bool
-    requires can_next { I.can_next pairs.now × IsFinite (I.remaining pairs.now) }
-{
-    for (text, wanted) in wanted {
-        match pairs.next() {
-            Some((key, value)) => {
-                if key.as_ref() != text.as_bytes() || *value != *wanted {
-                    return false;
-                }
-            }
-            None => return false,
-        }
-    }
-    true
-}
-
-/// Whether the pairs are these and no others, and after the last always none.
-pub fn are_all<'a, I: Iterator<Item = (Key, &'a u64)>>(
-    pairs: &mut I,
-    wanted: &[(&str, u64)],
-) -> bool
-    requires can { (it : I) → I.can_next it }
-    requires can_next { I.can_next pairs.now × IsFinite (I.remaining pairs.now) }
-{
-    are_next(pairs, wanted) && pairs.next().is_none() && pairs.next().is_none()
 }

@@ -1,12 +1,11 @@
 //! Keys lent in segments: the segments, what a view says of its bytes, copies of them, and walks over views.
 
-use crate::walks::forms::{Calls, Walk, make, views_between};
+use crate::walks::forms::{Calls, Walk, make};
 use rart::{KeyTrait, LendingKeyView};
 use rart_test_trees::texts::{Key, Pair, Tree, filled, key};
 use std::alloc::Global;
 use std::cell::Cell;
 use std::cmp::Ordering;
-use std::ops::Bound;
 use std::panic::Expect;
 
 pub static AB_AND_ABCD: [Pair; 2] = [("ab", 1), ("abcd", 2)];
@@ -63,15 +62,6 @@ fn sees(tree: &Tree, key: Key, walk: Walk, rows: &[Row]) -> bool {
     make(tree, key, walk, &calls) == Ok(()) && calls.are_rows()
 }
 
-static BELOW: [Walk; 4] = [
-    Walk::ViewsBelow,
-    Walk::ViewsBelowByValue,
-    Walk::ViewsBelowLent,
-    Walk::ViewsBelowLentByValue,
-];
-
-static ALL: [Walk; 2] = [Walk::Views, Walk::ViewsLent];
-
 // Whether each of the walks about the key does.
 fn each_sees(tree: &Tree, key: Key, walks: &[Walk], rows: &[Row]) -> bool {
     for walk in walks {
@@ -82,73 +72,11 @@ fn each_sees(tree: &Tree, key: Key, walks: &[Walk], rows: &[Row]) -> bool {
     true
 }
 
-// Whether a walk over the views below a prefix sees these, in each form.
-fn walks_see(tree: &Tree, prefix: &[u8], rows: &[Row]) -> bool {
-    each_sees(tree, key(prefix), &BELOW, rows)
-}
-
-// Whether a walk over the views between two bounds sees these, its start within.
-fn walk_sees_between(tree: &Tree, start: &[u8], end: Bound<Key>, rows: &[Row]) -> bool {
-    let calls = Calls::of_rows(rows);
-    let start = Bound::Included(key(start));
-    views_between(tree, start, end, false, &calls) == Ok(()) && calls.are_rows()
-}
-
-fn walk_sees_all(tree: &Tree, rows: &[Row]) -> bool {
-    each_sees(tree, key(b""), &ALL, rows)
-}
-
 const AB: Row = ("ab", 1, "ab", "");
 
 const ABCD: Row = ("abcd", 2, "ab", "cd");
 
-fn sees_ab_and_abcd(tree: &Tree) -> bool {
-    walks_see(tree, b"abc", &[ABCD])
-        && walks_see(tree, b"a", &[AB, ABCD])
-        && walks_see(tree, b"x", &[])
-        && walk_sees_all(tree, &[AB, ABCD])
-}
-
-#[test]
-fn views_below_a_prefix(rt: HostRuntime) {
-    let tree = filled(rt.alloc(), &AB_AND_ABCD).expect(&rt, "a tree");
-    assert!(rt; sees_ab_and_abcd(&tree));
-}
-
 const EMPTY: Row = ("", 7, "", "");
-
-const B: Row = ("b", 8, "b", "");
-
-const BCD: Row = ("bcd", 9, "b", "cd");
-
-fn sees_the_empty_key(tree: &Tree) -> bool {
-    walks_see(tree, b"", &[EMPTY, B, BCD]) && walk_sees_all(tree, &[EMPTY, B, BCD])
-}
-
-fn sees_nothing(empty: &Tree) -> bool {
-    walk_sees_all(empty, &[]) && walks_see(empty, b"a", &[])
-}
-
-#[test]
-fn views_of_the_empty_key_and_of_no_tree(rt: HostRuntime) {
-    let empty = Tree::new(rt.alloc());
-    let tree = filled(rt.alloc(), &WITH_EMPTY).expect(&rt, "a tree");
-    assert!(rt; sees_the_empty_key(&tree) && sees_nothing(&empty));
-}
-
-fn sees_between(tree: &Tree) -> bool {
-    let end = Bound::Excluded(key(b"bcd"));
-    walk_sees_between(tree, b"", Bound::Unbounded, &[EMPTY, B, BCD])
-        && walk_sees_between(tree, b"a", Bound::Unbounded, &[B, BCD])
-        && walk_sees_between(tree, b"bc", Bound::Unbounded, &[BCD])
-        && walk_sees_between(tree, b"a", end, &[B])
-}
-
-#[test]
-fn views_between_two_bounds_are_cut_at_the_branch_points(rt: HostRuntime) {
-    let tree = filled(rt.alloc(), &WITH_EMPTY).expect(&rt, "a tree");
-    assert!(rt; sees_between(&tree));
-}
 
 // Whether the calls that show the longest match of the probe show the pair of the row, once, and say so; without a row,
 // whether they show nothing.
@@ -156,24 +84,16 @@ fn shows_longest(tree: &Tree, probe: &[u8], walks: &[Walk], rows: &[Row]) -> boo
     each_sees(tree, key(probe), walks, rows)
 }
 
-static LENT: [Walk; 2] = [Walk::LongestLent, Walk::LongestLentByValue];
-
 fn shows_ab_and_abcd(tree: &Tree, walks: &[Walk]) -> bool {
     shows_longest(tree, b"abcx", walks, &[AB])
         && shows_longest(tree, b"abcde", walks, &[ABCD])
         && shows_longest(tree, b"x", walks, &[])
 }
 
-#[test]
-fn the_longest_match_is_shown_once_by_ref(rt: HostRuntime) {
-    let tree = filled(rt.alloc(), &AB_AND_ABCD).expect(&rt, "a tree");
-    assert!(rt; shows_ab_and_abcd(&tree, &LENT));
-}
-
-static OWNED: [Walk; 3] = [Walk::Longest, Walk::LongestByValue, Walk::LongestCounted];
+static OWNED: [Walk; 1] = [Walk::LongestCounted];
 
 #[test]
-fn the_longest_match_is_shown_once(rt: HostRuntime) {
+fn the_longest_match_of_a_counted_call_is_shown_once(rt: HostRuntime) {
     let tree = filled(rt.alloc(), &AB_AND_ABCD).expect(&rt, "a tree");
     let with_empty = filled(rt.alloc(), &WITH_EMPTY).expect(&rt, "a tree");
     let empty_key = shows_longest(&with_empty, b"x", &OWNED, &[EMPTY]);

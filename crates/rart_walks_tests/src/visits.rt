@@ -1,11 +1,10 @@
-//! Walks with a callback: with what it is called, in order, and how the walk ends, in each form.
+//! Counted walks with a callback: with what it is called, in order, and how the walk ends.
 
 // What a callback saw is kept as digits after a first 1: of each value one, of each key its length.
 
 use crate::walks::forms::{Calls, Walk, make};
-use rart::{KeyTrait, TreeError};
-use rart_test_trees::texts::{Key, Pair, THREE, Tree, filled, key};
-use std::cell::Cell;
+use rart::TreeError;
+use rart_test_trees::texts::{Key, Pair, Tree, filled, key};
 use std::panic::Expect;
 
 pub fn with_digit(seen: u64, digit: u64) -> u64 {
@@ -30,27 +29,15 @@ static OF_ALP: [Row; 9] = [
 ];
 
 // Walks over the values below a prefix that can end early, and those that can't.
-static ENDING: [Walk; 7] = [
-    Walk::TryValues,
-    Walk::TryValuesByValue,
-    Walk::TryValuesLent,
-    Walk::TryValuesLentByValue,
+static ENDING: [Walk; 3] = [
     Walk::TryValuesSeen,
     Walk::TryValuesCounted,
     Walk::TryValuesLentCounted,
 ];
 
-static WHOLE: [Walk; 12] = [
-    Walk::Values,
-    Walk::ValuesByValue,
-    Walk::ValuesLent,
-    Walk::ValuesLentByValue,
+static WHOLE: [Walk; 4] = [
     Walk::ValuesCounted,
     Walk::ValuesLentCounted,
-    Walk::Fold,
-    Walk::FoldByValue,
-    Walk::FoldLent,
-    Walk::FoldLentByValue,
     Walk::FoldCounted,
     Walk::FoldLentCounted,
 ];
@@ -114,63 +101,4 @@ pub fn with_match(seen: u64, probe: &[u8], key: &[u8], value: u64) -> u64 {
     } else {
         0
     }
-}
-
-fn matches_by_bytes_are(tree: &Tree, probe: &[u8], wanted: u64) -> bool {
-    let seen = Cell::new(1_u64);
-    tree.prefix_match_for_each_bytes(probe, |found: &[u8], value: &u64| {
-        seen.set(with_match(seen.get(), probe, found, *value));
-    });
-    let mut lent = 1_u64;
-    let mut callback = |found: &[u8], value: &u64| lent = with_match(lent, probe, found, *value);
-    tree.prefix_match_for_each_by_ref_bytes(probe, &mut callback);
-    seen.get() == wanted && lent == wanted
-}
-
-fn matches_by_ref_are(tree: &Tree, key: &Key, probe: &[u8], wanted: u64) -> bool {
-    let seen = Cell::new(1_u64);
-    tree.prefix_match_for_each_k(key, |found: &[u8], value: &u64| {
-        seen.set(with_match(seen.get(), probe, found, *value));
-    });
-    let mut lent = 1_u64;
-    let mut callback = |found: &[u8], value: &u64| lent = with_match(lent, probe, found, *value);
-    tree.prefix_match_for_each_by_ref_k(key, &mut callback);
-    seen.get() == wanted && lent == wanted
-}
-
-fn matches_by_value_are(tree: &Tree, key: Key, probe: &[u8], wanted: u64) -> bool {
-    let seen = Cell::new(1_u64);
-    tree.prefix_match_for_each(key, |found: &[u8], value: &u64| {
-        seen.set(with_match(seen.get(), probe, found, *value));
-    });
-    let mut lent = 1_u64;
-    let mut callback = |found: &[u8], value: &u64| lent = with_match(lent, probe, found, *value);
-    tree.prefix_match_for_each_by_ref(key, &mut callback);
-    seen.get() == wanted && lent == wanted
-}
-
-/// Whether the matches of the probe are these, in each form.
-pub fn matches_are(tree: &Tree, key: Key, probe: &[u8], wanted: u64) -> bool {
-    matches_by_ref_are(tree, &key, probe, wanted)
-        && matches_by_value_are(tree, key, probe, wanted)
-        && matches_by_bytes_are(tree, probe, wanted)
-}
-
-// The first probe whose matches are others, if there is one.
-fn first_wrong_probe(tree: &Tree) -> Option<usize> {
-    let mut at = 0_usize;
-    for (text, wanted) in &OF_THREE {
-        let probe = text.as_bytes();
-        if !matches_are(tree, key(probe), probe, *wanted) {
-            return Some(at);
-        }
-        at = at.wrapping_add(1);
-    }
-    None
-}
-
-#[test]
-fn matches_of_a_probe(rt: HostRuntime) {
-    let tree = filled(rt.alloc(), &THREE).expect(&rt, "a tree");
-    assert_eq!(rt; first_wrong_probe(&tree), None);
 }

@@ -1,5 +1,5 @@
-//! Walks in every form: with each request for memory refused in turn, by their counted forms, and where nothing may be
-//! requested.
+//! Counted walks: with each request for memory refused in turn, and where nothing may be requested; the bytes that
+//! walks request, copies of views, and laws.
 
 mod capacity;
 mod copies;
@@ -8,6 +8,4 @@ pub mod forms;
 mod laws;
 mod requests;
 mod seen_forms;
-pub mod segments;
 mod sweeps;
-mod values_mut;

@@ -1,34 +1,10 @@
 //! Descending ranges, and those that start at every byte of each of the four storages.
 
 use super::starts::insert_spaced;
-use rart::{KeyTrait, RangeDescending, TreeError};
-use rart_test_trees::texts::{Key, Pair, Tree, is_pair};
+use rart::{KeyTrait, RangeDescending};
+use rart_test_trees::texts::{Key, Tree};
 use std::alloc::Global;
 use std::ops::Bound;
-
-// The same pairs from the last on, and after the first always none.
-fn gives_back(mut range: RangeDescending<'_, Key, u64>, wanted: &[Pair]) -> bool {
-    for turn in 1..=wanted.len() {
-        match (range.next(), wanted.get(wanted.len().wrapping_sub(turn))) {
-            (Some(pair), Some(row)) if is_pair(&pair, row) => {}
-            _ => return false,
-        }
-    }
-    range.next().is_none() && range.next().is_none() && range.next().is_none()
-}
-
-/// Whether the pairs within the ends come from the last on.
-pub(super) fn is_given_back(
-    tree: &Tree,
-    start: Bound<Key>,
-    end: Bound<Key>,
-    wanted: &[Pair],
-) -> Result<bool, TreeError> {
-    match tree.range_descending(start, end) {
-        Ok(range) => Ok(gives_back(range, wanted)),
-        Err(error) => Err(error),
-    }
-}
 
 // Whether the values before this byte come, the greatest first.
 fn counts_down(range: &mut RangeDescending<'_, Key, u64>, end: usize, count: usize) -> bool {

@@ -1,12 +1,11 @@
-//! Where the views of an intersection are cut: after each stretch that both prefixes have, and after each edge byte by
-//! which a longer prefix continues.
+//! Where the views of a counted intersection are cut: after each stretch that both prefixes have, and after each edge
+//! byte by which a longer prefix continues.
 
 use crate::joins::rows::{OTHER_WORDS, WORDS};
-use rart::{LendingKeyView, Seen, TreeError, TreeStatsTrait, Visits};
+use rart::{LendingKeyView, Seen, TreeError, Visits};
 use rart_test_trees::texts::{Key, Pair, Tree, after, filled};
 use std::alloc::Global;
 use std::cell::Cell;
-use std::panic::Expect;
 
 // The pairs of two trees; and the keys that both have, each with a bar after each of its segments and a semicolon at
 // its end.
@@ -69,26 +68,6 @@ fn next_cut(text: &[u8], at: usize, view: LendingKeyView<'_, '_>) -> usize {
     }
 }
 
-fn owned(left: &Tree, right: &Tree, text: &[u8]) -> (Result<(), TreeError>, usize) {
-    let at = Cell::new(0_usize);
-    let answer = left.intersect_lending_with(
-        right,
-        |key: LendingKeyView<'_, '_>, _one: &u64, _other: &u64| {
-            at.set(next_cut(text, at.get(), key));
-        },
-    );
-    (answer, at.get())
-}
-
-fn by_ref(left: &Tree, right: &Tree, text: &[u8]) -> (Result<(), TreeError>, usize) {
-    let mut at = 0_usize;
-    let mut cut = |key: LendingKeyView<'_, '_>, _one: &u64, _other: &u64| {
-        at = next_cut(text, at, key);
-    };
-    let answer = left.intersect_lending_with_by_ref(right, &mut cut);
-    (answer, at)
-}
-
 fn seen(tree: &Tree) -> Seen<'_, Key, u64, Visits> {
     tree.seen()
 }
@@ -120,10 +99,7 @@ fn counted_by_ref(left: &Tree, right: &Tree, text: &[u8]) -> (Result<(), TreeErr
 
 fn is_cut(left: &Tree, right: &Tree, text: &[u8]) -> bool {
     let whole = (Ok(()), text.len());
-    owned(left, right, text) == whole
-        && by_ref(left, right, text) == whole
-        && counted(left, right, text) == whole
-        && counted_by_ref(left, right, text) == whole
+    counted(left, right, text) == whole && counted_by_ref(left, right, text) == whole
 }
 
 fn is_cut_beside(alloc: Global, left: &Tree, row: &Row) -> bool {
@@ -154,21 +130,6 @@ fn first_wrong(alloc: Global, rows: &[Row]) -> Option<usize> {
 }
 
 #[test]
-fn a_view_is_cut_after_each_shared_stretch_and_each_edge_byte(rt: HostRuntime) {
+fn a_counted_view_is_cut_after_each_shared_stretch_and_each_edge_byte(rt: HostRuntime) {
     assert_eq!(rt; first_wrong(rt.alloc(), &ROWS), None);
-}
-
-fn count_nodes(tree: &Tree) -> Option<usize> {
-    match tree.get_tree_stats() {
-        Ok(stats) => Some(stats.num_leaves.wrapping_add(stats.num_inner_nodes)),
-        Err(_) => None,
-    }
-}
-
-#[test]
-fn both_trees_of_words_have_four_nodes(rt: HostRuntime) {
-    for pairs in [WORDS, OTHER_WORDS] {
-        let tree = filled(rt.alloc(), &pairs).expect(&rt, "a tree");
-        assert_eq!(rt; count_nodes(&tree), Some(4));
-    }
 }

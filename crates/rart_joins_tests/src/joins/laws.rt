@@ -3,12 +3,10 @@
 use crate::joins::rows::{Given, Triple};
 use crate::joins::{Check, first_wrong};
 use rart::laws::intersections::intersections_are_symmetric;
-use rart::{KeyTrait, LendingKeyView, TreeError};
+use rart::{KeyTrait, TreeError};
 use rart_test_tools::refusals::{is_swept, refuse, was_refused};
-use rart_test_trees::texts::{Key, Pair, Tree, filled};
+use rart_test_trees::texts::{Key, Tree};
 use std::alloc::Global;
-use std::cell::Cell;
-use std::panic::Expect;
 
 // Whether the law's call gives what both trees have, and with swapped values once more.
 pub fn gives_both_ways(left: &Tree, right: &Tree, wanted: &[Triple]) -> bool {
@@ -63,33 +61,4 @@ pub fn law_is_swept(alloc: Global, left: &Tree, right: &Tree, wanted: &[Triple])
 #[test]
 fn swapped_trees_refused_in_turn(rt: HostRuntime) {
     assert_eq!(rt; first_wrong(rt.alloc(), Check::LawRefused), None);
-}
-
-const ENDED: [Pair; 3] = [("ab\0", 1), ("abc\0", 2), ("dog\0", 3)];
-
-// Whether intersections with an empty tree call nothing while the next request is refused.
-fn is_quiet(alloc: Global, one: &Tree, other: &Tree) -> bool {
-    let many = Cell::new(0_usize);
-    refuse(alloc, 1);
-    let keys = one.intersect_with(other, |_key: Key, _one: &u64, _other: &u64| {
-        many.set(many.get().wrapping_add(1));
-    });
-    let views = one.intersect_lending_with(
-        other,
-        |_key: LendingKeyView<'_, '_>, _one: &u64, _other: &u64| {
-            many.set(many.get().wrapping_add(1));
-        },
-    );
-    !was_refused(alloc) && keys == Ok(()) && views == Ok(()) && many.get() == 0
-}
-
-fn are_quiet(alloc: Global, empty: &Tree, words: &Tree) -> bool {
-    is_quiet(alloc, empty, words) && is_quiet(alloc, words, empty) && is_quiet(alloc, empty, empty)
-}
-
-#[test]
-fn intersections_with_an_empty_tree_make_no_request(rt: HostRuntime) {
-    let empty = Tree::new(rt.alloc());
-    let words = filled(rt.alloc(), &ENDED).expect(&rt, "a tree");
-    assert!(rt; are_quiet(rt.alloc(), &empty, &words));
 }

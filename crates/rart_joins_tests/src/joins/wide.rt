@@ -1,8 +1,7 @@
 //! Intersections of nodes of every two capacities, key by key, and of trees whose values have two types.
 
-use crate::joins::rows::{Triple, is_intersection};
 use rart::{AdaptiveRadixTree, KeyTrait};
-use rart_test_trees::texts::{Key, Pair, Tree, filled};
+use rart_test_trees::texts::{Key, Tree, filled};
 use std::alloc::Global;
 use std::cell::Cell;
 use std::panic::Expect;
@@ -30,23 +29,6 @@ fn multiples(alloc: Global, of: u8) -> Option<Tree> {
     } else {
         None
     }
-}
-
-const FIVE: [Pair; 5] = [("\0", 1), ("2", 2), ("33", 3), ("d", 4), ("}", 5)];
-
-static OF_FIVE: [Triple; 4] = [("\0", 0, 1), ("2", 50, 2), ("d", 100, 4), ("}", 125, 5)];
-
-fn intersects_five(alloc: Global, all: &Tree) -> bool {
-    match filled(alloc, &FIVE) {
-        Some(five) => is_intersection(all, &five, &OF_FIVE),
-        None => false,
-    }
-}
-
-#[test]
-fn a_full_node_beside_five_keys(rt: HostRuntime) {
-    let all = multiples(rt.alloc(), 1).expect(&rt, "a tree");
-    assert!(rt; intersects_five(rt.alloc(), &all));
 }
 
 // The next number that both divide, from this one on; 256 after the last one, and a number above that stays.

@@ -1,7 +1,7 @@
 //! Calls that make a tree of nothing or compare two; the library that refuses memory reports one that allocates.
 
 use crate::loads::{Key, ascend, load_by_index, load_unique};
-use rart::{AdaptiveRadixTree, BulkError, KeyTrait};
+use rart::{AdaptiveRadixTree, BulkError};
 use rart_test_tools::refusals::{refuse, was_refused};
 use std::alloc::Global;
 
@@ -56,38 +56,4 @@ fn is_new_quietly(alloc: Global) -> bool {
 #[test]
 fn a_new_tree_and_its_migration_make_no_request(rt: HostRuntime) {
     assert!(rt; is_new_quietly(rt.alloc()));
-}
-
-// Inserts forty keys, and returns whether there was memory for each.
-fn fill(tree: &mut Tree) -> bool {
-    for byte in 0..40u8 {
-        if tree
-            .insert_k(&Key::new_from_slice(&[byte % 20, byte]), 1)
-            .is_err()
-        {
-            return false;
-        }
-    }
-    true
-}
-
-fn are_filled_equal(alloc: Global, one: &mut Tree, other: &mut Tree) -> Option<bool> {
-    if !fill(one) || !fill(other) {
-        return None;
-    }
-    refuse(alloc, 1);
-    let same = *one == *other;
-    Some(same && !was_refused(alloc))
-}
-
-// Whether two trees of the same forty keys are equal while the next request is refused; `None` without memory for the
-// trees.
-fn are_equal_quietly(alloc: Global) -> Option<bool> {
-    let (mut one, mut other) = (Tree::new(alloc), Tree::new(alloc));
-    are_filled_equal(alloc, &mut one, &mut other)
-}
-
-#[test]
-fn comparisons_of_equal_trees_make_no_request(rt: HostRuntime) {
-    assert!(rt; are_equal_quietly(rt.alloc()) == Some(true));
 }

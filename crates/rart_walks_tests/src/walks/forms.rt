@@ -1,42 +1,17 @@
-//! A walk with a callback in each of its forms: how often it called, and its outcome.
+//! A counted walk with a callback: how often it called, and its outcome.
 
 use super::seen_forms;
 use crate::views::{Row, next_row};
 use crate::visits::with_digit;
-use rart::{KeyTrait, LendingKeyView, TreeError, VisitControl, VisitError};
+use rart::{LendingKeyView, TreeError, VisitControl, VisitError};
 use rart_test_tools::refusals::refuse;
 use rart_test_trees::texts::{Key, Pair, Tree};
 use std::alloc::Global;
 use std::cell::Cell;
-use std::ops::Bound;
 
 /// A walk, by a form of its call.
 #[derive(Clone, Copy)]
 pub enum Walk {
-    Views,
-    ViewsLent,
-    ViewsBelow,
-    ViewsBelowByValue,
-    ViewsBelowLent,
-    ViewsBelowLentByValue,
-    ViewsWithin,
-    ViewsWithinLent,
-    Longest,
-    LongestByValue,
-    LongestLent,
-    LongestLentByValue,
-    Values,
-    ValuesByValue,
-    ValuesLent,
-    ValuesLentByValue,
-    Fold,
-    FoldByValue,
-    FoldLent,
-    FoldLentByValue,
-    TryValues,
-    TryValuesByValue,
-    TryValuesLent,
-    TryValuesLentByValue,
     TryValuesSeen,
     ValuesCounted,
     ValuesLentCounted,
@@ -55,31 +30,7 @@ pub static PAIRS: [Pair; 5] = [
     ("beta", 5),
 ];
 
-static WALKS: [(Walk, usize); 32] = [
-    (Walk::Views, 5),
-    (Walk::ViewsLent, 5),
-    (Walk::ViewsBelow, 4),
-    (Walk::ViewsBelowByValue, 4),
-    (Walk::ViewsBelowLent, 4),
-    (Walk::ViewsBelowLentByValue, 4),
-    (Walk::ViewsWithin, 3),
-    (Walk::ViewsWithinLent, 3),
-    (Walk::Longest, 1),
-    (Walk::LongestByValue, 1),
-    (Walk::LongestLent, 1),
-    (Walk::LongestLentByValue, 1),
-    (Walk::Values, 4),
-    (Walk::ValuesByValue, 4),
-    (Walk::ValuesLent, 4),
-    (Walk::ValuesLentByValue, 4),
-    (Walk::Fold, 4),
-    (Walk::FoldByValue, 4),
-    (Walk::FoldLent, 4),
-    (Walk::FoldLentByValue, 4),
-    (Walk::TryValues, 4),
-    (Walk::TryValuesByValue, 4),
-    (Walk::TryValuesLent, 4),
-    (Walk::TryValuesLentByValue, 4),
+static WALKS: [(Walk, usize); 8] = [
     (Walk::TryValuesSeen, 4),
     (Walk::ValuesCounted, 4),
     (Walk::ValuesLentCounted, 4),
@@ -196,45 +147,6 @@ fn views(tree: &Tree, lent: bool, calls: &Calls<'_>) -> Outcome {
     }
 }
 
-fn views_below(tree: &Tree, key: Key, by_value: bool, calls: &Calls<'_>) -> Outcome {
-    let callback = |view: LendingKeyView<'_, '_>, value: &u64| calls.view(view, *value);
-    if by_value {
-        tree.prefix_for_each_view(key, callback)
-    } else {
-        tree.prefix_for_each_view_k(&key, callback)
-    }
-}
-
-fn views_below_lent(tree: &Tree, key: Key, by_value: bool, calls: &Calls<'_>) -> Outcome {
-    let mut callback = |view: LendingKeyView<'_, '_>, value: &u64| calls.view(view, *value);
-    if by_value {
-        tree.prefix_for_each_view_by_ref(key, &mut callback)
-    } else {
-        tree.prefix_for_each_view_by_ref_k(&key, &mut callback)
-    }
-}
-
-pub fn views_between(
-    tree: &Tree,
-    start: Bound<Key>,
-    end: Bound<Key>,
-    lent: bool,
-    calls: &Calls<'_>,
-) -> Outcome {
-    let mut callback = |view: LendingKeyView<'_, '_>, value: &u64| calls.view(view, *value);
-    if lent {
-        tree.for_each_range_view_by_ref(start, end, &mut callback)
-    } else {
-        tree.for_each_range_view(start, end, callback)
-    }
-}
-
-// From after the key to before "beta".
-fn views_within(tree: &Tree, key: Key, lent: bool, calls: &Calls<'_>) -> Outcome {
-    let end = Bound::Excluded(Key::new_from_slice(b"beta"));
-    views_between(tree, Bound::Excluded(key), end, lent, calls)
-}
-
 // Its result says whether it called.
 pub fn match_outcome(called: Result<bool, TreeError>, calls: &Calls<'_>) -> Outcome {
     match called {
@@ -254,31 +166,12 @@ fn longest(tree: &Tree, key: Key, by_value: bool, calls: &Calls<'_>) -> Outcome 
     match_outcome(called, calls)
 }
 
-fn longest_lent(tree: &Tree, key: Key, by_value: bool, calls: &Calls<'_>) -> Outcome {
-    let mut callback = |view: LendingKeyView<'_, '_>, value: &u64| calls.view(view, *value);
-    let called = if by_value {
-        tree.with_longest_prefix_match_view_by_ref(key, &mut callback)
-    } else {
-        tree.with_longest_prefix_match_view_by_ref_k(&key, &mut callback)
-    };
-    match_outcome(called, calls)
-}
-
 fn values(tree: &Tree, key: Key, by_value: bool, calls: &Calls<'_>) -> Outcome {
     let callback = |value: &u64| calls.value(*value);
     if by_value {
         tree.prefix_values_for_each(key, callback)
     } else {
         tree.prefix_values_for_each_k(&key, callback)
-    }
-}
-
-fn values_lent(tree: &Tree, key: Key, by_value: bool, calls: &Calls<'_>) -> Outcome {
-    let mut callback = |value: &u64| calls.value(*value);
-    if by_value {
-        tree.prefix_values_for_each_by_ref(key, &mut callback)
-    } else {
-        tree.prefix_values_for_each_by_ref_k(&key, &mut callback)
     }
 }
 
@@ -300,19 +193,6 @@ fn fold(tree: &Tree, key: Key, by_value: bool, calls: &Calls<'_>) -> Outcome {
         tree.prefix_values_fold(key, 1, callback)
     } else {
         tree.prefix_values_fold_k(&key, 1, callback)
-    };
-    fold_outcome(folded, calls)
-}
-
-fn fold_lent(tree: &Tree, key: Key, by_value: bool, calls: &Calls<'_>) -> Outcome {
-    let mut callback = |seen: u64, value: &u64| {
-        calls.value(*value);
-        with_digit(seen, *value)
-    };
-    let folded = if by_value {
-        tree.prefix_values_fold_by_ref(key, 1, &mut callback)
-    } else {
-        tree.prefix_values_fold_by_ref_k(&key, 1, &mut callback)
     };
     fold_outcome(folded, calls)
 }
@@ -340,48 +220,9 @@ fn try_values(tree: &Tree, key: Key, by_value: bool, calls: &Calls<'_>) -> Outco
     }
 }
 
-fn try_values_lent(tree: &Tree, key: Key, by_value: bool, calls: &Calls<'_>) -> Outcome {
-    let mut callback = |value: &u64| calls.control(*value);
-    if by_value {
-        outcome_of(
-            tree.try_prefix_values_for_each_by_ref(key, &mut callback),
-            calls,
-        )
-    } else {
-        outcome_of(
-            tree.try_prefix_values_for_each_by_ref_k(&key, &mut callback),
-            calls,
-        )
-    }
-}
-
 /// Makes the walk. A failure other than refused memory is returned as `Full`.
 pub fn make(tree: &Tree, key: Key, walk: Walk, calls: &Calls<'_>) -> Outcome {
     match walk {
-        Walk::Views => views(tree, false, calls),
-        Walk::ViewsLent => views(tree, true, calls),
-        Walk::ViewsBelow => views_below(tree, key, false, calls),
-        Walk::ViewsBelowByValue => views_below(tree, key, true, calls),
-        Walk::ViewsBelowLent => views_below_lent(tree, key, false, calls),
-        Walk::ViewsBelowLentByValue => views_below_lent(tree, key, true, calls),
-        Walk::ViewsWithin => views_within(tree, key, false, calls),
-        Walk::ViewsWithinLent => views_within(tree, key, true, calls),
-        Walk::Longest => longest(tree, key, false, calls),
-        Walk::LongestByValue => longest(tree, key, true, calls),
-        Walk::LongestLent => longest_lent(tree, key, false, calls),
-        Walk::LongestLentByValue => longest_lent(tree, key, true, calls),
-        Walk::Values => values(tree, key, false, calls),
-        Walk::ValuesByValue => values(tree, key, true, calls),
-        Walk::ValuesLent => values_lent(tree, key, false, calls),
-        Walk::ValuesLentByValue => values_lent(tree, key, true, calls),
-        Walk::Fold => fold(tree, key, false, calls),
-        Walk::FoldByValue => fold(tree, key, true, calls),
-        Walk::FoldLent => fold_lent(tree, key, false, calls),
-        Walk::FoldLentByValue => fold_lent(tree, key, true, calls),
-        Walk::TryValues => try_values(tree, key, false, calls),
-        Walk::TryValuesByValue => try_values(tree, key, true, calls),
-        Walk::TryValuesLent => try_values_lent(tree, key, false, calls),
-        Walk::TryValuesLentByValue => try_values_lent(tree, key, true, calls),
         Walk::TryValuesSeen => seen_forms::try_values_seen(tree, key, calls),
         Walk::ValuesCounted => seen_forms::values(tree, key, false, calls),
         Walk::ValuesLentCounted => seen_forms::values(tree, key, true, calls),

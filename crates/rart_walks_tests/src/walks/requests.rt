@@ -2,7 +2,6 @@
 //! started.
 
 use super::forms::{Calls, PAIRS, Walk, make, walks};
-use crate::visits::matches_are;
 use rart::{ArrPartial, Iter, KeyTrait, Range, SeenIter, SeenRange, TreeError, Visits};
 use rart_test_tools::refusals::{refuse, was_refused};
 use rart_test_trees::texts::{Key, Tree, filled};
@@ -58,18 +57,6 @@ fn first_requesting(alloc: Global, tree: &Tree) -> Option<usize> {
 fn walks_that_call_make_no_request(rt: HostRuntime) {
     let tree = filled(rt.alloc(), &PAIRS).expect(&rt, "a tree");
     assert_eq!(rt; first_requesting(rt.alloc(), &tree), None);
-}
-
-fn is_quiet_about(alloc: Global, tree: &Tree, key: Key) -> bool {
-    refuse(alloc, 1);
-    let well = matches_are(tree, key, key.as_ref(), 1_31_62);
-    !was_refused(alloc) && well
-}
-
-#[test]
-fn calls_about_a_probe_make_no_request(rt: HostRuntime) {
-    let tree = filled(rt.alloc(), &PAIRS).expect(&rt, "a tree");
-    assert!(rt; is_quiet_about(rt.alloc(), &tree, Key::new_from_slice(b"alpha12")));
 }
 
 // Each counts how many of ten calls give a pair.

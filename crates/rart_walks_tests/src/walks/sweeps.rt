@@ -1,12 +1,10 @@
 //! Walks and iterators with each of their requests refused: a refused walk has called nothing.
 
 use super::forms::{Calls, PAIRS, Walk, make, walks};
-use crate::items::counted;
 use rart::{KeyTrait, TreeError};
 use rart_test_tools::refusals::{part_ends, refuse, was_refused};
 use rart_test_trees::texts::{Key, Tree, filled};
 use std::alloc::Global;
-use std::ops::Bound;
 use std::panic::Expect;
 
 // A refused walk says `Memory` and has called nothing; another has called as often as wanted.
@@ -43,70 +41,4 @@ fn first_wrong_walk(alloc: Global, tree: &Tree) -> Option<usize> {
 fn walks_refused_in_turn_call_nothing(rt: HostRuntime) {
     let tree = filled(rt.alloc(), &PAIRS).expect(&rt, "a tree");
     assert_eq!(rt; first_wrong_walk(rt.alloc(), &tree), None);
-}
-
-/// An iterator, by the call that starts it.
-#[derive(Clone, Copy)]
-enum Start {
-    Iter,
-    Values,
-    Prefix,
-    PrefixByValue,
-    Range,
-}
-
-static STARTS: [(Start, usize); 5] = [
-    (Start::Iter, 5),
-    (Start::Values, 5),
-    (Start::Prefix, 4),
-    (Start::PrefixByValue, 4),
-    (Start::Range, 3),
-];
-
-// How many items it gives.
-fn count(tree: &Tree, key: Key, start: Start) -> Result<usize, TreeError> {
-    match start {
-        Start::Iter => counted(tree.iter()),
-        Start::Values => counted(tree.values_iter()),
-        Start::Prefix => counted(tree.prefix_iter_k(&key)),
-        Start::PrefixByValue => counted(tree.prefix_iter(key)),
-        Start::Range => {
-            let end = Bound::Excluded(Key::new_from_slice(b"beta"));
-            counted(tree.range(Bound::Excluded(key), end))
-        }
-    }
-}
-
-fn start_is_swept(alloc: Global, tree: &Tree, key: Key, start: Start, wanted: usize) -> bool {
-    for at in 1..100_usize {
-        refuse(alloc, at);
-        let many = count(tree, key, start);
-        if !was_refused(alloc) {
-            part_ends(alloc);
-            return many == Ok(wanted);
-        }
-        if many != Err(TreeError::Memory) {
-            return false;
-        }
-    }
-    false
-}
-
-// The first start that fails, if there is one.
-fn first_wrong_start(alloc: Global, tree: &Tree) -> Option<usize> {
-    let key = Key::new_from_slice(b"alp");
-    let mut row = 0_usize;
-    for (start, wanted) in &STARTS {
-        if !start_is_swept(alloc, tree, key, *start, *wanted) {
-            return Some(row);
-        }
-        row = row.wrapping_add(1);
-    }
-    None
-}
-
-#[test]
-fn started_iterators_refused_in_turn(rt: HostRuntime) {
-    let tree = filled(rt.alloc(), &PAIRS).expect(&rt, "a tree");
-    assert_eq!(rt; first_wrong_start(rt.alloc(), &tree), None);
 }

@@ -1,0 +1,49 @@
+//! A row's call with its keys.
+
+use crate::form::Form;
+use crate::row::{Args, Row};
+use crate::words::{bound_of, key_of, same_key};
+use rart::KeyTrait;
+use std::ops::Bound;
+
+/// A call that is to be made.
+#[derive(Drop)]
+pub struct Asked<'a, K: KeyTrait + Drop> {
+    /// The key, or that of the first bound.
+    pub key: K,
+    /// The key of the second bound.
+    end_key: K,
+    pub row: &'a Row<'a>,
+    pub form: Form,
+}
+
+impl<'a, K: KeyTrait + Drop> Asked<'a, K> {
+    /// The call of a row; none if its keys are too long.
+    pub fn new(row: &'a Row<'a>, form: Form) -> Option<Self> {
+        let key = key_of::<K>(row.args.key.as_slice())?;
+        let end_key = key_of::<K>(row.args.end_key.as_slice())?;
+        Some(Asked {
+            key,
+            end_key,
+            row,
+            form,
+        })
+    }
+
+    /// The key once more, for a call that takes it.
+    pub fn taken(&self) -> K {
+        same_key(&self.key)
+    }
+
+    pub fn args(&self) -> &'a Args<'a> {
+        &self.row.args
+    }
+
+    pub fn start(&self) -> Bound<K> {
+        bound_of(&self.key, self.row.args.start)
+    }
+
+    pub fn end(&self) -> Bound<K> {
+        bound_of(&self.end_key, self.row.args.end)
+    }
+}

@@ -1,0 +1,270 @@
+//! Insertions, removals, and edits of values.
+
+use crate::answer::Answer;
+use crate::calls::updates::{try_update, update};
+use crate::form::Form;
+use crate::names::{Insertion, Removal, Values};
+use crate::row::Args;
+use crate::words::same_key;
+use crate::world::Tree;
+use rart::{KeyTrait, NotInserted, Refused, TreeError, TryInsertError};
+
+/// The old value of an insertion, or its refusal.
+pub fn put_inserted(
+    inserted: Result<Option<u64>, Refused<u64>>,
+    offered: u64,
+    answer: &mut Answer,
+) {
+    match inserted {
+        Ok(old) => answer.value(old),
+        Err(refused) => answer.returned(refused.error, refused.value, offered),
+    }
+}
+
+/// What an insertion of a new key returns, which shows a stored value.
+pub fn put_tried(tried: Result<(), TryInsertError<'_, u64>>, offered: u64, answer: &mut Answer) {
+    match tried {
+        Ok(()) => answer.word(b"inserted"),
+        Err(TryInsertError::Occupied(back, stored)) => {
+            answer.word(b"occupied");
+            answer.number(back);
+            answer.number(*stored);
+        }
+        Err(TryInsertError::Refused(refused)) => {
+            answer.returned(refused.error, refused.value, offered);
+        }
+    }
+}
+
+/// The same without the stored value.
+pub fn put_new(new: Result<(), NotInserted<u64>>, offered: u64, answer: &mut Answer) {
+    match new {
+        Ok(()) => answer.word(b"inserted"),
+        Err(NotInserted::Stored(back)) => {
+            answer.word(b"stored");
+            answer.number(back);
+        }
+        Err(NotInserted::Refused(refused)) => {
+            answer.returned(refused.error, refused.value, offered);
+        }
+    }
+}
+
+/// The value that was removed, or the refusal.
+pub fn put_removed(removed: Result<Option<u64>, TreeError>, answer: &mut Answer) {
+    match removed {
+        Ok(old) => answer.value(old),
+        Err(error) => answer.error(error),
+    }
+}
+
+/// A pair that was removed, or the refusal.
+pub fn put_popped<K: KeyTrait + Drop>(
+    popped: Result<Option<(K, u64)>, TreeError>,
+    answer: &mut Answer,
+) {
+    match popped {
+        Ok(Some((key, value))) => answer.pair(key.as_ref(), value),
+        Ok(None) => answer.word(b"none"),
+        Err(error) => answer.error(error),
+    }
+}
+
+fn put_deleted(deleted: Result<bool, TreeError>, answer: &mut Answer) {
+    match deleted {
+        Ok(found) => answer.truth(found),
+        Err(error) => answer.error(error),
+    }
+}
+
+fn insert<K: KeyTrait + Drop>(
+    tree: &mut Tree<K>,
+    key: &K,
+    value: u64,
+    form: Form,
+) -> Result<Option<u64>, Refused<u64>> {
+    if form.takes_key() {
+        tree.insert(same_key(key), value)
+    } else {
+        tree.insert_k(key, value)
+    }
+}
+
+fn try_insert<K: KeyTrait + Drop>(
+    tree: &mut Tree<K>,
+    key: &K,
+    value: u64,
+    form: Form,
+    answer: &mut Answer,
+) {
+    if form.takes_key() {
+        put_tried(tree.try_insert(same_key(key), value), value, answer);
+    } else {
+        put_tried(tree.try_insert_k(key, value), value, answer);
+    }
+}
+
+fn insert_new<K: KeyTrait + Drop>(
+    tree: &mut Tree<K>,
+    key: &K,
+    value: u64,
+    form: Form,
+) -> Result<(), NotInserted<u64>> {
+    if form.takes_key() {
+        tree.insert_new(same_key(key), value)
+    } else {
+        tree.insert_new_k(key, value)
+    }
+}
+
+// Writes the value over the stored one, which it returns.
+fn get_mut_k<K: KeyTrait>(tree: &mut Tree<K>, key: &K, value: u64) -> Option<u64> {
+    match tree.get_mut_k(key) {
+        Some(place) => {
+            let old = *place;
+            *place = value;
+            Some(old)
+        }
+        None => None,
+    }
+}
+
+fn get_mut<K: KeyTrait + Drop>(tree: &mut Tree<K>, key: K, value: u64) -> Option<u64> {
+    match tree.get_mut(key) {
+        Some(place) => {
+            let old = *place;
+            *place = value;
+            Some(old)
+        }
+        None => None,
+    }
+}
+
+fn overwrite<K: KeyTrait + Drop>(
+    tree: &mut Tree<K>,
+    key: &K,
+    value: u64,
+    form: Form,
+) -> Option<u64> {
+    if form.takes_key() {
+        get_mut(tree, same_key(key), value)
+    } else {
+        get_mut_k(tree, key, value)
+    }
+}
+
+/// Inserts a value at a key, or updates the one there.
+pub fn insert_at<K: KeyTrait + Drop>(
+    tree: &mut Tree<K>,
+    key: &K,
+    insertion: Insertion,
+    args: &Args<'_>,
+    form: Form,
+    answer: &mut Answer,
+) {
+    let value = args.value;
+    match insertion {
+        Insertion::Insert => put_inserted(insert(tree, key, value, form), value, answer),
+        Insertion::TryInsert => try_insert(tree, key, value, form, answer),
+        Insertion::InsertNew => put_new(insert_new(tree, key, value, form), value, answer),
+        Insertion::GetMut => answer.value(overwrite(tree, key, value, form)),
+        Insertion::Update => update(tree, key, &args.request, form, answer),
+        Insertion::TryUpdate => try_update(tree, key, &args.request, form, answer),
+    }
+}
+
+fn remove<K: KeyTrait + Drop>(
+    tree: &mut Tree<K>,
+    key: &K,
+    form: Form,
+) -> Result<Option<u64>, TreeError> {
+    if form.takes_key() {
+        tree.remove(same_key(key))
+    } else {
+        tree.remove_k(key)
+    }
+}
+
+fn delete<K: KeyTrait + Drop>(tree: &mut Tree<K>, key: &K, form: Form) -> Result<bool, TreeError> {
+    if form.takes_key() {
+        tree.delete(same_key(key))
+    } else {
+        tree.delete_k(key)
+    }
+}
+
+fn clear<K: KeyTrait>(tree: &mut Tree<K>, answer: &mut Answer) {
+    tree.clear();
+    answer.word(b"done");
+}
+
+/// Removes one pair or all.
+pub fn remove_at<K: KeyTrait + Drop>(
+    tree: &mut Tree<K>,
+    key: &K,
+    removal: Removal,
+    form: Form,
+    answer: &mut Answer,
+) {
+    match removal {
+        Removal::Remove => put_removed(remove(tree, key, form), answer),
+        Removal::Delete => put_deleted(delete(tree, key, form), answer),
+        Removal::PopFirst => put_popped(tree.pop_first(), answer),
+        Removal::PopLast => put_popped(tree.pop_last(), answer),
+        Removal::Clear => clear(tree, answer),
+    }
+}
+
+// Adds a number to each value, and shows what the values were.
+fn for_each_value_mut<K: KeyTrait>(
+    tree: &mut Tree<K>,
+    added: u64,
+    form: Form,
+    answer: &mut Answer,
+) {
+    let mut add = |value: &mut u64| {
+        answer.item(*value);
+        *value = (*value).wrapping_add(added);
+    };
+    if form.lends() {
+        tree.for_each_value_mut_by_ref(&mut add);
+    } else {
+        tree.for_each_value_mut(add);
+    }
+}
+
+fn prefix_for_each_value_mut<K: KeyTrait + Drop>(
+    tree: &mut Tree<K>,
+    prefix: &K,
+    added: u64,
+    form: Form,
+    answer: &mut Answer,
+) {
+    let mut add = |value: &mut u64| {
+        answer.item(*value);
+        *value = (*value).wrapping_add(added);
+    };
+    if form.lends() {
+        tree.prefix_for_each_value_mut_by_ref_k(prefix, &mut add);
+    } else if form.takes_key() {
+        tree.prefix_for_each_value_mut(same_key(prefix), add);
+    } else {
+        tree.prefix_for_each_value_mut_k(prefix, add);
+    }
+}
+
+/// Adds a number to values.
+pub fn add_to_values<K: KeyTrait + Drop>(
+    tree: &mut Tree<K>,
+    key: &K,
+    values: Values,
+    added: u64,
+    form: Form,
+    answer: &mut Answer,
+) {
+    match values {
+        Values::ForEachValueMut => for_each_value_mut(tree, added, form, answer),
+        Values::PrefixForEachValueMut => prefix_for_each_value_mut(tree, key, added, form, answer),
+    }
+    answer.end();
+}

@@ -1,0 +1,117 @@
+//! Look-ups, and what is read of a whole tree.
+
+use crate::answer::Answer;
+use crate::form::Form;
+use crate::names::{Look, Probe, Whole};
+use crate::words::same_key;
+use crate::world::Tree;
+use rart::{KeyTrait, TreeError, TreeStats, TreeStatsTrait};
+
+/// A pair, if there is one.
+pub fn put_found<K: KeyTrait + Drop>(found: Option<(K, &u64)>, answer: &mut Answer) {
+    match found {
+        Some((key, value)) => answer.pair(key.as_ref(), *value),
+        None => answer.word(b"none"),
+    }
+}
+
+/// Statistics, or why there are none.
+pub fn put_stats(stats: Result<TreeStats, TreeError>, answer: &mut Answer) {
+    match stats {
+        Ok(stats) => answer.stats(&stats),
+        Err(error) => answer.error(error),
+    }
+}
+
+fn get<K: KeyTrait + Drop>(tree: &Tree<K>, key: &K, form: Form) -> Option<u64> {
+    if form.takes_key() {
+        tree.get(same_key(key)).copied()
+    } else {
+        tree.get_k(key).copied()
+    }
+}
+
+fn contains<K: KeyTrait + Drop>(tree: &Tree<K>, key: &K, form: Form) -> bool {
+    if form.takes_key() {
+        tree.contains_key(same_key(key))
+    } else {
+        tree.contains_key_k(key)
+    }
+}
+
+fn longest<K: KeyTrait + Drop>(tree: &Tree<K>, key: &K, form: Form, answer: &mut Answer) {
+    if form.takes_key() {
+        put_found(tree.longest_prefix_match(same_key(key)), answer);
+    } else {
+        put_found(tree.longest_prefix_match_k(key), answer);
+    }
+}
+
+fn longest_value<K: KeyTrait + Drop>(tree: &Tree<K>, key: &K, form: Form) -> Option<u64> {
+    if form.takes_key() {
+        tree.longest_prefix_value(same_key(key)).copied()
+    } else {
+        tree.longest_prefix_value_k(key).copied()
+    }
+}
+
+/// Looks a key up.
+pub fn look<K: KeyTrait + Drop>(
+    tree: &Tree<K>,
+    key: &K,
+    look: Look,
+    form: Form,
+    answer: &mut Answer,
+) {
+    match look {
+        Look::Get => answer.value(get(tree, key, form)),
+        Look::ContainsKey => answer.truth(contains(tree, key, form)),
+        Look::LongestPrefixMatch => longest(tree, key, form, answer),
+        Look::LongestPrefixValue => answer.value(longest_value(tree, key, form)),
+    }
+}
+
+fn longest_len<K: KeyTrait>(tree: &Tree<K>, probe: &[u8], answer: &mut Answer) {
+    match tree.longest_prefix_len_bytes(probe) {
+        Some((len, value)) => {
+            answer.count(len);
+            answer.number(*value);
+        }
+        None => answer.word(b"none"),
+    }
+}
+
+/// Looks bytes up.
+pub fn look_up_bytes<K: KeyTrait + Drop>(
+    tree: &Tree<K>,
+    bytes: &[u8],
+    probe: Probe,
+    answer: &mut Answer,
+) {
+    match probe {
+        Probe::GetBytes => answer.value(tree.get_bytes(bytes).copied()),
+        Probe::ContainsKeyBytes => answer.truth(tree.contains_key_bytes(bytes)),
+        Probe::LongestPrefixMatchBytes => put_found(tree.longest_prefix_match_bytes(bytes), answer),
+        Probe::LongestPrefixLenBytes => longest_len(tree, bytes, answer),
+        Probe::LongestPrefixValueBytes => {
+            answer.value(tree.longest_prefix_value_bytes(bytes).copied())
+        }
+    }
+}
+
+fn canonical<K: KeyTrait>(tree: &Tree<K>, answer: &mut Answer) {
+    tree.canonical();
+    answer.word(b"done");
+}
+
+/// Reads something of the whole tree.
+pub fn read_whole<K: KeyTrait + Drop>(tree: &Tree<K>, whole: Whole, answer: &mut Answer) {
+    match whole {
+        Whole::Canonical => canonical(tree, answer),
+        Whole::Len => answer.count(tree.len()),
+        Whole::IsEmpty => answer.truth(tree.is_empty()),
+        Whole::Stats => put_stats(tree.get_tree_stats(), answer),
+        Whole::FirstKeyValue => put_found(tree.first_key_value(), answer),
+        Whole::LastKeyValue => put_found(tree.last_key_value(), answer),
+    }
+}

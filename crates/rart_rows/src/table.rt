@@ -1,0 +1,244 @@
+//! The names of the calls.
+
+use crate::names::{
+    Both, Call, Callback, Group, Insertion, Load, Look, Many, Pairs, Probe, Reach, Removal, Route,
+    TableEdit, TableRead, Tables, Turns, Values, Views, Whole,
+};
+
+/// A name, its call, and a letter for each argument.
+pub type Entry = (&'static str, Call, &'static str);
+
+// Where two names are one call, the second is the word of the program `rart_script`.
+static NAMES: [Entry; 70] = [
+    ("get", Call::Look(Look::Get), "k"),
+    ("contains_key", Call::Look(Look::ContainsKey), "k"),
+    (
+        "longest_prefix_match",
+        Call::Look(Look::LongestPrefixMatch),
+        "k",
+    ),
+    ("longest", Call::Look(Look::LongestPrefixMatch), "k"),
+    (
+        "longest_prefix_value",
+        Call::Look(Look::LongestPrefixValue),
+        "k",
+    ),
+    ("get_bytes", Call::Probe(Probe::GetBytes), "b"),
+    (
+        "contains_key_bytes",
+        Call::Probe(Probe::ContainsKeyBytes),
+        "b",
+    ),
+    (
+        "longest_prefix_match_bytes",
+        Call::Probe(Probe::LongestPrefixMatchBytes),
+        "b",
+    ),
+    (
+        "longest_prefix_len_bytes",
+        Call::Probe(Probe::LongestPrefixLenBytes),
+        "b",
+    ),
+    (
+        "longest_prefix_value_bytes",
+        Call::Probe(Probe::LongestPrefixValueBytes),
+        "b",
+    ),
+    ("canonical", Call::Whole(Whole::Canonical), ""),
+    ("len", Call::Whole(Whole::Len), ""),
+    ("is_empty", Call::Whole(Whole::IsEmpty), ""),
+    ("get_tree_stats", Call::Whole(Whole::Stats), ""),
+    ("stats", Call::Whole(Whole::Stats), ""),
+    ("first_key_value", Call::Whole(Whole::FirstKeyValue), ""),
+    ("last_key_value", Call::Whole(Whole::LastKeyValue), ""),
+    ("insert", Call::Insertion(Insertion::Insert), "kv"),
+    ("try_insert", Call::Insertion(Insertion::TryInsert), "kv"),
+    ("insert_new", Call::Insertion(Insertion::InsertNew), "kv"),
+    ("get_mut", Call::Insertion(Insertion::GetMut), "kv"),
+    ("update", Call::Insertion(Insertion::Update), "ku"),
+    ("try_update", Call::Insertion(Insertion::TryUpdate), "ku"),
+    ("remove", Call::Removal(Removal::Remove), "k"),
+    ("delete", Call::Removal(Removal::Delete), "k"),
+    ("pop_first", Call::Removal(Removal::PopFirst), ""),
+    ("pop_last", Call::Removal(Removal::PopLast), ""),
+    ("clear", Call::Removal(Removal::Clear), ""),
+    (
+        "for_each_value_mut",
+        Call::Values(Values::ForEachValueMut),
+        "v",
+    ),
+    (
+        "prefix_for_each_value_mut",
+        Call::Values(Values::PrefixForEachValueMut),
+        "kv",
+    ),
+    ("retain", Call::Many(Many::Retain), "rv"),
+    ("remove_prefix", Call::Many(Many::RemovePrefix), "k"),
+    ("take_prefix", Call::Many(Many::TakePrefix), "k"),
+    ("into_pairs", Call::Many(Many::IntoPairs), ""),
+    ("append", Call::Both(Both::Append), ""),
+    ("clone", Call::Both(Both::Clone), ""),
+    ("equal", Call::Both(Both::Equal), ""),
+    ("swap", Call::Both(Both::Swap), ""),
+    ("intersect_count", Call::Both(Both::IntersectCount), ""),
+    (
+        "intersect_values_with",
+        Call::Both(Both::IntersectValuesWith),
+        "",
+    ),
+    ("intersect_with", Call::Both(Both::IntersectWith), ""),
+    (
+        "intersect_lending_with",
+        Call::Both(Both::IntersectLendingWith),
+        "",
+    ),
+    ("bulk_load_sorted", Call::Load(Load::BulkLoadSorted), "i"),
+    ("from_pairs", Call::Load(Load::FromPairs), "i"),
+    ("extend", Call::Load(Load::Extend), "i"),
+    ("iter", Call::Pairs(Pairs::Iter), ""),
+    ("values_iter", Call::Pairs(Pairs::ValuesIter), ""),
+    ("prefix_iter", Call::Pairs(Pairs::PrefixIter), "k"),
+    ("prefix", Call::Pairs(Pairs::PrefixIter), "k"),
+    (
+        "prefix_match_iter",
+        Call::Pairs(Pairs::PrefixMatchIter),
+        "k",
+    ),
+    ("range", Call::Pairs(Pairs::Range), "se"),
+    ("iter_descending", Call::Pairs(Pairs::IterDescending), ""),
+    (
+        "prefix_iter_descending",
+        Call::Pairs(Pairs::PrefixIterDescending),
+        "k",
+    ),
+    (
+        "range_descending",
+        Call::Pairs(Pairs::RangeDescending),
+        "se",
+    ),
+    ("iter_both_ends", Call::Turns(Turns::IterBothEnds), "t"),
+    (
+        "values_iter_both_ends",
+        Call::Turns(Turns::ValuesIterBothEnds),
+        "t",
+    ),
+    (
+        "prefix_iter_both_ends",
+        Call::Turns(Turns::PrefixIterBothEnds),
+        "kt",
+    ),
+    ("range_both_ends", Call::Turns(Turns::RangeBothEnds), "set"),
+    (
+        "prefix_match_for_each",
+        Call::Callback(Callback::PrefixMatchForEach),
+        "k",
+    ),
+    (
+        "prefix_match_for_each_bytes",
+        Call::Callback(Callback::PrefixMatchForEachBytes),
+        "b",
+    ),
+    (
+        "prefix_values_for_each",
+        Call::Callback(Callback::PrefixValuesForEach),
+        "k",
+    ),
+    (
+        "prefix_values_fold",
+        Call::Callback(Callback::PrefixValuesFold),
+        "k",
+    ),
+    (
+        "try_prefix_values_for_each",
+        Call::Callback(Callback::TryPrefixValuesForEach),
+        "kc",
+    ),
+    ("for_each_view", Call::Views(Views::ForEachView), ""),
+    (
+        "prefix_for_each_view",
+        Call::Views(Views::PrefixForEachView),
+        "k",
+    ),
+    (
+        "for_each_range_view",
+        Call::Views(Views::ForEachRangeView),
+        "se",
+    ),
+    (
+        "with_longest_prefix_match_view",
+        Call::Views(Views::WithLongestPrefixMatchView),
+        "k",
+    ),
+    ("fill", Call::Group(Group::Fill), "bvw"),
+    ("empty_out", Call::Group(Group::EmptyOut), "bvw"),
+    ("holds", Call::Group(Group::Holds), "bv"),
+];
+
+static ROUTE_NAMES: [Entry; 28] = [
+    ("add", Call::Route(Route::Add), "kv"),
+    ("add_new", Call::Route(Route::AddNew), "kv"),
+    ("replace", Call::Route(Route::Replace), "kv"),
+    ("withdraw", Call::Route(Route::Withdraw), "k"),
+    ("get", Call::Route(Route::Get), "k"),
+    (
+        "route_with_prefix",
+        Call::Route(Route::RouteWithPrefix),
+        "k",
+    ),
+    (
+        "covering_for_each",
+        Call::Route(Route::CoveringForEach),
+        "k",
+    ),
+    ("below_for_each", Call::Route(Route::BelowForEach), "k"),
+    ("route", Call::Reach(Reach::Route), "b"),
+    (
+        "route_with_prefix_bytes",
+        Call::Reach(Reach::RouteWithPrefixBytes),
+        "b",
+    ),
+    (
+        "covering_for_each_bytes",
+        Call::Reach(Reach::CoveringForEachBytes),
+        "b",
+    ),
+    ("canonical", Call::TableRead(TableRead::Canonical), ""),
+    ("len", Call::TableRead(TableRead::Len), ""),
+    ("is_empty", Call::TableRead(TableRead::IsEmpty), ""),
+    ("stats", Call::TableRead(TableRead::Stats), ""),
+    (
+        "first_key_value",
+        Call::TableRead(TableRead::FirstKeyValue),
+        "",
+    ),
+    (
+        "last_key_value",
+        Call::TableRead(TableRead::LastKeyValue),
+        "",
+    ),
+    ("pop_first", Call::TableEdit(TableEdit::PopFirst), ""),
+    ("pop_last", Call::TableEdit(TableEdit::PopLast), ""),
+    ("clear", Call::TableEdit(TableEdit::Clear), ""),
+    ("iter", Call::TableRead(TableRead::Iter), ""),
+    (
+        "iter_both_ends",
+        Call::TableRead(TableRead::IterBothEnds),
+        "t",
+    ),
+    ("append", Call::Tables(Tables::Append), ""),
+    ("clone", Call::Tables(Tables::Clone), ""),
+    ("equal", Call::Tables(Tables::Equal), ""),
+    ("swap", Call::Tables(Tables::Swap), ""),
+    ("from_pairs", Call::TableEdit(TableEdit::FromPairs), "i"),
+    ("extend", Call::TableEdit(TableEdit::Extend), "i"),
+];
+
+/// The calls of a tree. Each body that names a large static takes its time.
+pub fn names() -> &'static [Entry] {
+    &NAMES
+}
+
+/// The calls of a route table.
+pub fn route_names() -> &'static [Entry] {
+    &ROUTE_NAMES
+}
