@@ -35,10 +35,13 @@ COUNTS = re.compile(
     r"^(\d+) rows, (\d+) wrong answers, (\d+) unreadable lines, (\d+) requests refused$", re.M
 )
 
+# What it says of rows that name requests, where none can be refused.
+UNPLAYED = re.compile(r"^(\d+) rows of refusing parts were not played", re.M)
+
 
 def text_of(files):
     """What the program reads: each file after a line with its name."""
-    return b"".join(b"file " + os.fsencode(name) + b"\n" + text for name, text in files)
+    return b"".join(b"file " + os.fsencode(name) + b"\n" + text.rstrip(b"\n") + b"\n" for name, text in files)
 
 
 def play(program, text, library=None):
@@ -61,10 +64,11 @@ def why_not(program, name, text, library=None):
     if not found:
         return f"status {status}, without counts: {said[-300:]!r}", 0, 0
     rows, wrong, unreadable, refused = map(int, found.groups())
+    unplayed = UNPLAYED.search(said)
     wanted = sum(b" -> " in line and not line.startswith(b"#") for line in text.splitlines())
-    if status or wrong or unreadable:
+    if status or wrong or unreadable or unplayed and library:
         return said, rows, refused
-    if rows != wanted:
+    if rows + int(unplayed[1] if unplayed else 0) != wanted:
         return f"{rows} rows were played of {wanted}", rows, refused
     if library and not refused:
         return "no request was refused", rows, refused
@@ -89,9 +93,9 @@ def is_caught(program, name, text, library):
 
 def is_refused(program, name, text):
     """Why a line that is no row was not refused, or nothing."""
-    line = text.count(b"\n") + 1
-    status, said, _ = play(program, text_of([(name, text + b"get -> none\n")]))
-    named = f"{name}:{line}: cannot be read" in said
+    lines = [*text.splitlines(), b"get -> none"]
+    status, said, _ = play(program, text_of([(name, b"\n".join(lines))]))
+    named = f"{name}:{len(lines)}: cannot be read" in said
     return "" if status == 2 and named else f"status {status}: {said[-300:]!r}"
 
 

@@ -156,7 +156,7 @@ fn play_part(alloc: Global, part: &Part<'_>, prints: bool, report: &mut Report) 
     }
     match (part.head.is_empty(), prints) {
         (false, _) => play_head(alloc, part, prints, report),
-        // the lines before the first part are comments
+        // a row before the first part has no keys to be played on
         (true, true) => report.put(part.rows),
         (true, false) => count_rows(part, false, report),
     }

@@ -2,6 +2,7 @@
 
 use crate::answer::Answer;
 use crate::form::{FORMS, Form};
+use crate::names::Call;
 use crate::report::{Line, Report};
 use crate::row::{Demand, Row, read_row};
 use crate::run::run_part;
@@ -36,12 +37,25 @@ pub fn wanted_in<'a>(text: &'a [u8], line: Line<'a>, is_refusing: bool) -> Optio
     }
 }
 
-fn count_line(line: Line<'_>, text: &[u8], is_refusing: bool, report: &mut Report) {
-    if is_row(text) {
-        match wanted_in(text, line, is_refusing) {
-            Some(_row) => report.count_row(),
-            None => report.unreadable(line, text),
+// Whether the demand of a row is tested: a part whose rows name requests is not swept, and neither is a group of calls.
+fn is_demand_tested(row: &Row<'_>, is_refusing: bool) -> bool {
+    let is_swept = !is_refusing && !matches!(row.call, Call::Group(_));
+    is_swept || !matches!(row.demand, Demand::Quiet | Demand::Asks)
+}
+
+// Counts a row that can be read. Before the first key type there are no trees to play it on.
+fn count_line(
+    part: &Part<'_>,
+    line: Line<'_>,
+    text: &[u8],
+    is_refusing: bool,
+    report: &mut Report,
+) {
+    match wanted_in(text, line, is_refusing) {
+        Some(wanted) if !part.head.is_empty() && is_demand_tested(&wanted.row, is_refusing) => {
+            report.count_row(is_refusing)
         }
+        _ => report.unreadable(line, text),
     }
 }
 
@@ -54,7 +68,9 @@ pub fn count_rows(part: &Part<'_>, is_refusing: bool, report: &mut Report) {
             file: part.file,
             number,
         };
-        count_line(line, text, is_refusing, report);
+        if is_row(text) {
+            count_line(part, line, text, is_refusing, report);
+        }
         number = number.wrapping_add(1);
     }
 }

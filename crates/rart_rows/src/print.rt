@@ -19,19 +19,30 @@ fn call_in(text: &[u8]) -> &[u8] {
     }
 }
 
-fn print_row<K: KeyTrait + Drop>(
-    world: &mut World<K>,
-    row: &Row<'_>,
-    call: &[u8],
-    answer: &mut Answer,
-    report: &mut Report,
-) {
-    let _made = world.make(row, Form::Reference, refused_by(row), answer);
+fn put_row(call: &[u8], answer: &Answer, report: &mut Report) {
     report.put(call);
     report.put(b" -> ");
     report.put(answer.as_slice());
     report.put(b"\n");
-    report.count_row();
+    report.count_row(false);
+}
+
+// Prints a row, or the line alone if a key of it is too long.
+fn print_row<K: KeyTrait + Drop>(
+    world: &mut World<K>,
+    row: &Row<'_>,
+    text: &[u8],
+    answer: &mut Answer,
+    report: &mut Report,
+) {
+    if world
+        .make(row, Form::Reference, refused_by(row), answer)
+        .is_read
+    {
+        put_row(call_in(text), answer, report);
+    } else {
+        report.put_unreadable(text);
+    }
 }
 
 fn print_line<K: KeyTrait + Drop>(
@@ -40,9 +51,9 @@ fn print_line<K: KeyTrait + Drop>(
     answer: &mut Answer,
     report: &mut Report,
 ) {
-    let call = call_in(text);
-    match read_row(call) {
-        Some(row) if is_row(text) => print_row(world, &row, call, answer, report),
+    match read_row(call_in(text)) {
+        Some(row) if is_row(text) => print_row(world, &row, text, answer, report),
+        _ if is_row(text) => report.put_unreadable(text),
         _ => {
             report.put(text);
             report.put(b"\n");

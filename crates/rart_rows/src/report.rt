@@ -10,6 +10,8 @@ pub struct Report {
     text: Vec<u8>,
     /// How many rows were played.
     rows: u64,
+    /// How many were not, since they name requests that can't be refused.
+    unplayed: u64,
     /// How many of them were answered otherwise, in all forms.
     wrong: u64,
     /// How many lines could not be read.
@@ -32,6 +34,7 @@ impl Report {
         Report {
             text: Vec::new(alloc),
             rows: 0,
+            unplayed: 0,
             wrong: 0,
             unreadable: 0,
             refused: 0,
@@ -62,8 +65,13 @@ impl Report {
         self.put(b": ");
     }
 
-    pub fn count_row(&mut self) {
-        self.rows = self.rows.wrapping_add(1);
+    /// Counts a row. One that is `refusing` is only played where requests can be refused.
+    pub fn count_row(&mut self, is_refusing: bool) {
+        if is_refusing && !self.can_refuse {
+            self.unplayed = self.unplayed.wrapping_add(1);
+        } else {
+            self.rows = self.rows.wrapping_add(1);
+        }
     }
 
     pub fn count_refusal(&mut self) {
@@ -113,8 +121,19 @@ impl Report {
         self.put(b"\n");
     }
 
+    /// Puts a line that can't be printed with its answer.
+    pub fn put_unreadable(&mut self, text: &[u8]) {
+        self.unreadable = self.unreadable.wrapping_add(1);
+        self.put(text);
+        self.put(b"\n");
+    }
+
     /// Adds the last line, with the counts.
     pub fn end(&mut self) {
+        if self.unplayed > 0 {
+            self.number(self.unplayed);
+            self.put(b" rows of refusing parts were not played: no request can be refused\n");
+        }
         self.number(self.rows);
         self.put(b" rows, ");
         self.number(self.wrong);
@@ -127,7 +146,7 @@ impl Report {
 
     /// The status: 0 if rows were played and all is right, 1 if an answer is wrong, 2 if a line can't be read.
     pub fn status(&self) -> u8 {
-        if self.unreadable > 0 || self.rows == 0 {
+        if self.unreadable > 0 || self.rows == 0 && self.unplayed == 0 {
             2
         } else if self.wrong > 0 {
             1

@@ -75,6 +75,12 @@ impl Request {
         self.added == 0
     }
 
+    /// Whether a refused removal leaves what the callback wrote.
+    pub fn writes(&self) -> bool {
+        let is_written = self.written.is_some() || self.added != 0;
+        is_written && matches!(self.edit, Edit::Remove)
+    }
+
     /// Whether the callback fails.
     pub fn fails(&self) -> bool {
         matches!(self.edit, Edit::Fail)

@@ -1,6 +1,6 @@
 //! A row: what call it makes, on what, and with which arguments.
 
-use crate::names::Call;
+use crate::names::{Call, Group, Insertion};
 use crate::request::{Request, Rule, Walk};
 use crate::table::{Entry, names, route_names};
 use crate::words::{Bytes, End, Words};
@@ -96,6 +96,17 @@ fn read_end<'a>(words: &mut Words<'a>, args: &mut Args<'a>) {
     }
 }
 
+// Reads turns at both ends.
+fn read_turns<'a>(words: &mut Words<'a>) -> &'a [u8] {
+    let turns = words.next();
+    for turn in turns {
+        if !matches!(*turn, b'f' | b'b') {
+            words.refuse();
+        }
+    }
+    turns
+}
+
 // Reads the argument that a letter names.
 fn read_arg<'a>(words: &mut Words<'a>, letter: u8, args: &mut Args<'a>) {
     match letter {
@@ -105,7 +116,7 @@ fn read_arg<'a>(words: &mut Words<'a>, letter: u8, args: &mut Args<'a>) {
         b'w' => args.to = words.number(),
         b's' => read_start(words, args),
         b'e' => read_end(words, args),
-        b't' => args.turns = words.next(),
+        b't' => args.turns = read_turns(words),
         b'i' => args.items = words.all(),
         b'u' => args.request = Request::read(words),
         b'r' => args.rule = Rule::read(words),
@@ -176,6 +187,15 @@ fn find(names: &[Entry], word: &[u8]) -> Option<(Call, &'static str)> {
     None
 }
 
+// Whether a call takes these arguments: `update` can't fail, and a group of calls is of some.
+fn takes(call: Call, args: &Args<'_>) -> bool {
+    match call {
+        Call::Insertion(Insertion::Update) => !args.request.fails(),
+        Call::Group(Group::Fill | Group::EmptyOut) => args.value < args.to,
+        _ => true,
+    }
+}
+
 /// Reads a row without its answer; none if it is malformed.
 pub fn read_row(text: &[u8]) -> Option<Row<'_>> {
     let mut words = Words::new(text);
@@ -194,5 +214,5 @@ pub fn read_row(text: &[u8]) -> Option<Row<'_>> {
         call,
         args,
     };
-    words.are_read().then_some(row)
+    (words.are_read() && takes(call, &row.args)).then_some(row)
 }

@@ -7,7 +7,6 @@ use crate::form::Form;
 use crate::names::{Call as Name, Insertion};
 use crate::play::{Wanted, wanted_in};
 use crate::report::{Line, Report};
-use crate::request::Edit;
 use crate::row::{Place, Row, read_row};
 use crate::text::{Part, halves};
 use crate::world::Tree;
@@ -23,10 +22,7 @@ const MANY: usize = 5000;
 
 // Whether a refused call leaves the value that it wrote: then what a refused run leaves is that of no other run.
 fn leaves_a_value(row: &Row<'_>) -> bool {
-    let request = &row.args.request;
-    matches!(row.call, Name::Insertion(Insertion::Update))
-        && request.written.is_some()
-        && matches!(request.edit, Edit::Remove)
+    matches!(row.call, Name::Insertion(Insertion::Update)) && row.args.request.writes()
 }
 
 // The call of a row as a value.

@@ -28,10 +28,7 @@ enum Left {
 
 fn left_by(row: &Row<'_>) -> Left {
     match row.call {
-        Call::Insertion(Insertion::Update) => match row.args.request.edit {
-            Edit::Remove => Left::Nodes,
-            _ => Left::All,
-        },
+        Call::Insertion(Insertion::Update) if row.args.request.writes() => Left::Nodes,
         Call::Many(Many::Retain)
         | Call::Both(Both::Append)
         | Call::Load(Load::Extend)
@@ -42,9 +39,25 @@ fn left_by(row: &Row<'_>) -> Left {
     }
 }
 
-// Whether a refused call says so. Only one that leaves a part of its work calls back before.
+// What a refused call says.
+fn refusal_of(row: &Row<'_>) -> &'static [u8] {
+    match (row.call, row.args.request.edit) {
+        (Call::Insertion(Insertion::Update | Insertion::TryUpdate), Edit::Remove) => b"not_removed",
+        (Call::Load(Load::FromPairs) | Call::TableEdit(TableEdit::FromPairs), _) => b"memory ",
+        _ => b"memory",
+    }
+}
+
+// Whether a refused call says so, and nothing else. Only one that leaves a part of its work calls back before, and only
+// one of a list of pairs returns one of them.
 fn is_said(answer: &Answer, row: &Row<'_>) -> bool {
-    answer.is_refusal_alone() || left_by(row) == Left::Part && answer.is_refusal()
+    let refusal = refusal_of(row);
+    match left_by(row) {
+        Left::Part => answer.is_refusal(),
+        _ if refusal.ends_with(b" ") => answer.is_refusal()
+            && answer.as_slice().starts_with(refusal),
+        _ => answer.is_refusal_alone() && answer.as_slice() == refusal,
+    }
 }
 
 // Whether the world is as a refused call may leave it. One that may differ from the twin's is made anew from it.
@@ -69,7 +82,7 @@ fn refused_at(row: &Row<'_>, turn: usize) -> Refusing {
 // memory for the list that it replies.
 fn is_demanded(row: &Row<'_>, form: Form, turn: usize, is_refused: bool) -> bool {
     match row.demand {
-        Demand::Quiet => !is_refused || form == Form::Step,
+        Demand::Quiet => !is_refused || form == Form::Step && matches!(row.call, Call::Pairs(_)),
         Demand::Asks => is_refused || turn > 1,
         _ => true,
     }

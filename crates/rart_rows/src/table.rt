@@ -174,7 +174,7 @@ static NAMES: [Entry; 70] = [
     ("holds", Call::Group(Group::Holds), "bv"),
 ];
 
-static ROUTE_NAMES: [Entry; 28] = [
+static ROUTE_NAMES: [Entry; 29] = [
     ("add", Call::Route(Route::Add), "kv"),
     ("add_new", Call::Route(Route::AddNew), "kv"),
     ("replace", Call::Route(Route::Replace), "kv"),
@@ -205,6 +205,7 @@ static ROUTE_NAMES: [Entry; 28] = [
     ("canonical", Call::TableRead(TableRead::Canonical), ""),
     ("len", Call::TableRead(TableRead::Len), ""),
     ("is_empty", Call::TableRead(TableRead::IsEmpty), ""),
+    ("get_tree_stats", Call::TableRead(TableRead::Stats), ""),
     ("stats", Call::TableRead(TableRead::Stats), ""),
     (
         "first_key_value",

@@ -145,8 +145,9 @@ fn first_byte(word: &[u8]) -> Option<(u8, &[u8])> {
 // The byte and the count of `a*9}`, and what is after it.
 fn run_of(word: &[u8]) -> Option<(u8, u64, &[u8])> {
     let (byte, rest) = first_byte(word)?;
+    let rest = rest.strip_prefix(b"*")?;
     let end = rest.iter().position(|one| *one == b'}')?;
-    let number = number_of(rest.get(1..end)?)?;
+    let number = number_of(rest.get(..end)?)?;
     Some((byte, number, rest.get(end.checked_add(1)?..)?))
 }
 

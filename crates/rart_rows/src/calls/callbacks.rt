@@ -53,24 +53,33 @@ fn values_for_each<K: KeyTrait + Drop>(
     }
 }
 
-// The values as the digits of a number, with how many there are before them.
+// The values as the digits of a number, after a first 1.
 fn add_digits(sum: u64, value: u64) -> u64 {
     sum.wrapping_mul(10).wrapping_add(value)
 }
 
-fn fold<K: KeyTrait + Drop>(tree: &Tree<K>, asked: &Asked<'_, K>) -> Result<u64, TreeError> {
-    let mut add = |sum: u64, value: &u64| add_digits(sum, *value);
+fn fold<K: KeyTrait + Drop>(
+    tree: &Tree<K>,
+    asked: &Asked<'_, K>,
+    calls: &mut u64,
+) -> Result<u64, TreeError> {
+    let mut add = |sum: u64, value: &u64| {
+        *calls = (*calls).wrapping_add(1);
+        add_digits(sum, *value)
+    };
     match asked.form {
-        Form::Value => tree.prefix_values_fold(asked.taken(), 0_u64, add),
-        Form::LentReference => tree.prefix_values_fold_by_ref_k(&asked.key, 0_u64, &mut add),
-        Form::LentValue => tree.prefix_values_fold_by_ref(asked.taken(), 0_u64, &mut add),
-        Form::Reference | Form::Step => tree.prefix_values_fold_k(&asked.key, 0_u64, add),
+        Form::Value => tree.prefix_values_fold(asked.taken(), 1_u64, add),
+        Form::LentReference => tree.prefix_values_fold_by_ref_k(&asked.key, 1_u64, &mut add),
+        Form::LentValue => tree.prefix_values_fold_by_ref(asked.taken(), 1_u64, &mut add),
+        Form::Reference | Form::Step => tree.prefix_values_fold_k(&asked.key, 1_u64, add),
     }
 }
 
-fn put_fold(fold: Result<u64, TreeError>, answer: &mut Answer) {
+// The sum, or the refusal, before which nothing may be called.
+fn put_fold(fold: Result<u64, TreeError>, calls: u64, answer: &mut Answer) {
     match fold {
         Ok(sum) => answer.number(sum),
+        Err(_error) if calls > 0 => answer.word(b"called"),
         Err(error) => answer.error(error),
     }
 }
@@ -135,7 +144,11 @@ pub fn call_back<K: KeyTrait + Drop>(
             let walked = values_for_each(tree, asked, answer);
             put_walked(walked, answer);
         }
-        Callback::PrefixValuesFold => put_fold(fold(tree, asked), answer),
+        Callback::PrefixValuesFold => {
+            let mut calls = 0_u64;
+            let folded = fold(tree, asked, &mut calls);
+            put_fold(folded, calls, answer);
+        }
         Callback::TryPrefixValuesForEach => {
             let tried = try_values(tree, asked, answer);
             put_tried(tried, answer);

@@ -115,6 +115,15 @@ fn offered(row: &Row<'_>) -> u64 {
     }
 }
 
+// Whether a row offers a value, which a refusal returns.
+fn offers(row: &Row<'_>) -> bool {
+    match row.call {
+        Name::Insertion(Insertion::Insert | Insertion::TryInsert) => true,
+        Name::Insertion(_) => matches!(row.args.request.edit, Edit::Insert),
+        _ => false,
+    }
+}
+
 fn put_occupied(back: u64, stored: u64, answer: &mut Answer) {
     answer.word(b"occupied");
     answer.number(back);
@@ -138,6 +147,7 @@ pub fn put_reply<K: KeyTrait>(reply: &Reply<K, u64>, row: &Row<'_>, answer: &mut
         Reply::Values(values) => put_values(values.as_slice(), answer),
         Reply::Len(len) => answer.count(*len),
         Reply::Stats(stats) => answer.stats(stats),
+        Reply::Refused(_error) if offers(row) => answer.word(b"not_returned"),
         Reply::Refused(error) => answer.error(*error),
         Reply::Returned(error, value) => answer.returned(*error, *value, offered(row)),
         Reply::Failed => put_failed(offered(row), answer),

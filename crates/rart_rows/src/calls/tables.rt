@@ -93,6 +93,15 @@ fn clone_into<K: KeyTrait + Drop>(table: &Table<K>, other: &mut Table<K>, answer
     }
 }
 
+// Whether the tables are equal, if `!=` says the contrary and the table equals itself.
+fn put_equal<K: KeyTrait>(table: &Table<K>, other: &Table<K>, answer: &mut Answer) {
+    let is_equal = *table == *other;
+    answer.truth(is_equal);
+    if (*table != *other) == is_equal || *table != *table {
+        answer.word(b"and not");
+    }
+}
+
 fn swap<K: KeyTrait>(table: &mut Table<K>, other: &mut Table<K>, answer: &mut Answer) {
     mem::swap(table, other);
     answer.word(b"done");
@@ -108,7 +117,7 @@ pub fn call_tables<K: KeyTrait + Drop>(
     match tables {
         Tables::Append => put_appended(table.append(other), answer),
         Tables::Clone => clone_into(table, other, answer),
-        Tables::Equal => answer.truth(*table == *other),
+        Tables::Equal => put_equal(table, other, answer),
         Tables::Swap => swap(table, other, answer),
     }
 }

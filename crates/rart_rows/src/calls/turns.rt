@@ -13,9 +13,9 @@ fn put_pair<K: KeyTrait + Drop>(found: Option<(K, &u64)>, answer: &mut Answer) {
     }
 }
 
-// The count of what is left, if it is not the wanted one.
-fn put_left(left: usize, wanted: usize, answer: &mut Answer) {
-    if left != wanted {
+// The count of what is left, if it or the hint is not the wanted one.
+fn put_left(left: usize, hint: (usize, Option<usize>), wanted: usize, answer: &mut Answer) {
+    if left != wanted || hint != (wanted, Some(wanted)) {
         answer.word(b"left");
         answer.count(left);
     }
@@ -38,7 +38,7 @@ pub fn put_by_turns<K: KeyTrait + Drop>(
         };
         put_pair(found, answer);
         left = left.saturating_sub(1);
-        put_left((*pairs).len(), left, answer);
+        put_left((*pairs).len(), (*pairs).size_hint(), left, answer);
     }
 }
 
@@ -58,7 +58,7 @@ fn put_values_by_turns<K: KeyTrait + Drop>(
         };
         answer.value(found.copied());
         left = left.saturating_sub(1);
-        put_left((*values).len(), left, answer);
+        put_left((*values).len(), (*values).size_hint(), left, answer);
     }
 }
 
