@@ -1,8 +1,9 @@
 -- What a route table ends as once what was borrowed from it is over.
-use Rattle.std.specs.Prelude.{⊤}
-use Rattle.std.specs.Borrow.{Fml, MutBor, follows_so}
+use Rattle.std.specs.Prelude.{◌≡◌, ℕ, List, Option, OnSome, ⊤}
+use Rattle.std.specs.Borrow.{Fml, LendsSo, MutBor, follows_so}
 use mathlib.Core.Option.{none}
 use denote.RattleType.{RattleType}
+use Rattle.rart_keys.specs.SortedMap.{put}
 use Rattle.rart_keys.specs.declared.partials.Partial as partials
 use Rattle.rart.specs.Loans.{KeyMembers}
 use Rattle.rart.specs.MapAndShape.{MapAndShape}
@@ -18,3 +19,10 @@ abbrev pub table_ends_as : (K T P : RattleType) → KeyMembers K.Denot → parti
     → MutBor (MapAndShape T.Denot) → (MapAndShape T.Denot → Type 0) → Fml
 table_ends_as K T P k p table E = follows_so (table_row K T P k p) (table_row K T P k p) table.ghost_name none
     (λ _ _. ⊤) E
+
+-- the target of a prefix was borrowed from the table, if there is one: the table ends with what was left there, and with
+-- the same nodes; if nothing was borrowed, it is unchanged
+abbrev pub lends_target : (K T P : RattleType) → KeyMembers K.Denot → partials.Ghosts P.Denot
+    → MutBor (MapAndShape T.Denot) → List ℕ → Option (MutBor T.Denot) → Fml
+lends_target K T P k p table prefix lent = LendsSo (table_row K T P k p) T table lent
+    (λ t w. OnSome lent ((t.pairs ≡ put prefix w table.now.pairs) × (t.nodes ≡ table.now.nodes))) (λ t. t ≡ table.now)

@@ -18,6 +18,7 @@ use std::marker::{Model, PhantomData};
 
 mod append;
 mod bulk;
+mod by_bytes;
 mod clones;
 mod ends;
 mod equal;
@@ -287,12 +288,7 @@ impl<K: KeyTrait, V> AdaptiveRadixTree<K, V> {
         ensures removes { Removes (K.bytes key.now) self.old.pairs self.new.pairs result }
         ensures unchanged { OnErr result (self.new ≡ self.old) }
     {
-        let removed = DefaultNode::remove(&mut self.root, self.alloc, key.as_ref())?;
-        if removed.is_some() {
-            self.len -= 1;
-        }
-        self.longest = length_kept(self.len, self.longest);
-        Ok(removed)
+        self.remove_bytes(key.as_ref())
     }
 
     /// Removes `key` and returns its value, as [`remove_k`](Self::remove_k).
@@ -320,7 +316,7 @@ impl<K: KeyTrait, V> AdaptiveRadixTree<K, V> {
         ensures deletes { Deletes (K.bytes key.now) self.old.pairs self.new.pairs result }
         ensures unchanged { OnErr result (self.new ≡ self.old) }
     {
-        Ok(self.remove_k(key)?.is_some())
+        self.delete_bytes(key.as_ref())
     }
 
     /// Removes `key`, drops its value and returns whether it was stored, as [`delete_k`](Self::delete_k).

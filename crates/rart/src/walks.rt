@@ -6,6 +6,7 @@
 // collect use the fold, which returns its state.
 
 pub(crate) mod both_ends;
+mod by_bytes;
 mod callbacks;
 pub(crate) mod descending;
 pub mod iter;

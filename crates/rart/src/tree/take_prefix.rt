@@ -3,12 +3,10 @@ ghost use Rattle.std.specs.Prelude.{◌≡◌, ◌+◌, ◌≤◌, OnErr};
 ghost use Rattle.rart_trie.specs.walks.BelowPrefix.{below_bound};
 ghost use Rattle.rart.specs.Edits.{RemovesPrefix, TakesPrefix};
 
-use crate::tree::{AdaptiveRadixTree, length_kept};
+use crate::tree::AdaptiveRadixTree;
 use rart_keys::KeyTrait;
-use rart_nodes::node::DefaultNode;
-use rart_nodes::{Count, Seen, Visits};
+use rart_nodes::{Count, Visits};
 use rart_parts::TreeError;
-use std::marker::PhantomData;
 
 impl<K: KeyTrait, V> AdaptiveRadixTree<K, V> {
     /// Removes all pairs whose key begins with `prefix` and returns them as a tree of their own, which has the
@@ -47,20 +45,7 @@ impl<K: KeyTrait, V> AdaptiveRadixTree<K, V> {
         ensures bound { C.number counter.new
             ≤ C.number counter.old + below_bound (K.bytes prefix.now) self.old.pairs }
     {
-        let bytes = prefix.as_ref();
-        let root = DefaultNode::take_prefix(&mut self.root, self.alloc, bytes, counter)?;
-        let seen: Seen<'_, K, V, C> = Seen::of(root.as_ref(), self.alloc, self.longest);
-        let len = seen.count_pairs_counted(counter);
-        let longest = self.longest;
-        self.len -= len;
-        self.longest = length_kept(self.len, longest);
-        Ok(AdaptiveRadixTree {
-            root,
-            len,
-            longest: length_kept(len, longest),
-            alloc: self.alloc,
-            of: PhantomData,
-        })
+        self.take_prefix_bytes_counted(prefix.as_ref(), counter)
     }
 
     /// Removes all pairs whose key begins with `prefix` and returns them as a tree of their own, as
@@ -89,7 +74,7 @@ impl<K: KeyTrait, V> AdaptiveRadixTree<K, V> {
         ensures removes { RemovesPrefix (K.bytes prefix.now) self.old.pairs self.new.pairs result }
         ensures unchanged { OnErr result (self.new ≡ self.old) }
     {
-        Ok(self.take_prefix_k(prefix)?.len())
+        self.remove_prefix_bytes(prefix.as_ref())
     }
 
     /// Removes all pairs whose key begins with `prefix`, drops their values and returns how many they were, as

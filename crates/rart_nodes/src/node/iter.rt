@@ -241,11 +241,21 @@ impl<'a, K: KeyTrait, V, C: Count> Seen<'a, K, V, C> {
 }
 
 impl<'a, K: KeyTrait, V, C: Count> Seen<'a, K, V, C> {
-    fn key_walk_below(
+    /// Returns an iterator over the pairs whose key begins with the bytes `prefix`, which may be longer than any key. It
+    /// allocates as [`iter_counted`](Self::iter_counted) does.
+    ///
+    /// # Errors
+    ///
+    /// [`TreeError::Memory`] if the tree isn't empty and the allocation fails. Nothing is then visited.
+    ///
+    /// # Visits
+    ///
+    /// At most `prefix.len() + 1` nodes.
+    pub fn prefix_iter_bytes_counted(
         self,
         prefix: &[u8],
         counter: &mut C,
-    ) -> Result<KeyWalk<'a, K, K::PartialType, V, C>, TreeError>
+    ) -> Result<SeenIter<'a, K, V, C>, TreeError>
         ensures pairs { IfOk result (λ it. it ≡ below prefix.now (seen_pairs self.entry)) }
         ensures memory { IfErr result (MayLackMemory (seen_pairs self.entry)) }
         ensures unvisited { OnErr result (counter.new ≡ counter.old) }
@@ -254,15 +264,17 @@ impl<'a, K: KeyTrait, V, C: Count> Seen<'a, K, V, C> {
         ensures bound { C.number counter.new ≤ C.number counter.old + length prefix.now + 1 }
     {
         let (walk, path) = self.walk_below(prefix, counter)?;
-        Ok(KeyWalk {
-            walk,
-            path,
-            of: PhantomData,
+        Ok(SeenIter {
+            pairs: KeyWalk {
+                walk,
+                path,
+                of: PhantomData,
+            },
         })
     }
 
-    /// Returns an iterator over the pairs whose key begins with `prefix`. It allocates as
-    /// [`iter_counted`](Self::iter_counted) does.
+    /// Returns an iterator over the pairs whose key begins with `prefix`, as
+    /// [`prefix_iter_bytes_counted`](Self::prefix_iter_bytes_counted) does.
     ///
     /// # Errors
     ///
@@ -285,12 +297,31 @@ impl<'a, K: KeyTrait, V, C: Count> Seen<'a, K, V, C> {
         ensures bound { C.number counter.new
             ≤ C.number counter.old + length (K.bytes prefix.now) + 1 }
     {
-        let pairs = self.key_walk_below(prefix.as_ref(), counter)?;
-        Ok(SeenIter { pairs })
+        self.prefix_iter_bytes_counted(prefix.as_ref(), counter)
     }
 }
 
 impl<'a, K: KeyTrait, V> Seen<'a, K, V, Visits> {
+    /// Returns an iterator over the pairs whose key begins with the bytes `prefix`, which may be longer than any key. It
+    /// allocates as [`iter_counted`](Self::iter_counted) does.
+    ///
+    /// # Errors
+    ///
+    /// [`TreeError::Memory`] if the tree isn't empty and the allocation fails.
+    pub fn prefix_iter_bytes(
+        self,
+        prefix: &[u8],
+    ) -> Result<Iter<'a, K, K::PartialType, V>, TreeError>
+        ensures pairs { IfOk result (λ it. it ≡ below prefix.now (seen_pairs self.entry)) }
+        ensures memory { IfErr result (MayLackMemory (seen_pairs self.entry)) }
+    {
+        let pairs = self.prefix_iter_bytes_counted(prefix, &mut Visits::new())?;
+        Ok(Iter {
+            pairs,
+            of: PhantomData,
+        })
+    }
+
     /// Returns an iterator over the pairs whose key begins with `prefix`. It allocates as
     /// [`iter_counted`](Self::iter_counted) does.
     ///
@@ -302,11 +333,7 @@ impl<'a, K: KeyTrait, V> Seen<'a, K, V, Visits> {
             (λ it. it ≡ below (K.bytes prefix.now) (seen_pairs self.entry)) }
         ensures memory { IfErr result (MayLackMemory (seen_pairs self.entry)) }
     {
-        let pairs = self.prefix_iter_k_counted(prefix, &mut Visits::new())?;
-        Ok(Iter {
-            pairs,
-            of: PhantomData,
-        })
+        self.prefix_iter_bytes(prefix.as_ref())
     }
 
     /// Returns an iterator over all pairs. It allocates as [`iter_counted`](Self::iter_counted) does.

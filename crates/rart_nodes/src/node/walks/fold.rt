@@ -35,8 +35,19 @@ fn fold_values<'a, P: Partial, V, C: Count, S, F: FnMut(S, &V) -> S>(
 }
 
 impl<'a, K: KeyTrait, V, C: Count> Seen<'a, K, V, C> {
-    /// Folds the values of the pairs whose key begins with the bytes `prefix`, in order.
-    fn fold_below<S: Drop, F: FnMut(S, &V) -> S>(
+    /// Calls `f` with the value of each pair whose key begins with the bytes `prefix`, which may be longer than any key,
+    /// in order. The first call gets `init`, each later one the answer of the call before it; returns the last answer.
+    /// `f` must be callable so. The caller keeps `f`.
+    ///
+    /// # Errors
+    ///
+    /// [`TreeError::Memory`] if the tree isn't empty and the allocation for the walk fails. Nothing is then
+    /// visited, and `f` is not called.
+    ///
+    /// # Visits
+    ///
+    /// At most `prefix.len() + 1 + 2 * m` nodes with `m` calls, none in an empty tree.
+    pub fn prefix_values_fold_by_ref_bytes_counted<S: Drop, F: FnMut(S, &V) -> S>(
         self,
         prefix: &[u8],
         init: S,
@@ -59,9 +70,8 @@ impl<'a, K: KeyTrait, V, C: Count> Seen<'a, K, V, C> {
         Ok(fold_values(&mut walk, counter, init, f))
     }
 
-    /// Calls `f` with the value of each pair whose key begins with `prefix`, in order. The first call gets `init`,
-    /// each later one the answer of the call before it; returns the last answer. `f` must be callable so. The caller
-    /// keeps `f`.
+    /// Folds the values of the pairs whose key begins with `prefix`, as
+    /// [`prefix_values_fold_by_ref_bytes_counted`](Self::prefix_values_fold_by_ref_bytes_counted) does.
     ///
     /// # Errors
     ///
@@ -91,7 +101,7 @@ impl<'a, K: KeyTrait, V, C: Count> Seen<'a, K, V, C> {
         ensures bound { C.number counter.new
             ≤ C.number counter.old + below_bound (K.bytes prefix.now) (seen_pairs self.entry) }
     {
-        self.fold_below(prefix.as_ref(), init, f, counter)
+        self.prefix_values_fold_by_ref_bytes_counted(prefix.as_ref(), init, f, counter)
     }
 
     /// Folds as [`prefix_values_fold_by_ref_k_counted`](Self::prefix_values_fold_by_ref_k_counted) does, and drops `f`.

@@ -43,7 +43,19 @@ fn for_each_view_of<'a, P: Partial, V, C: Count, F: FnMut(LendingKeyView<'_, '_>
 }
 
 impl<'a, K: KeyTrait, V, C: Count> Seen<'a, K, V, C> {
-    fn each_view_below<F: FnMut(LendingKeyView<'_, '_>, &V)>(
+    /// Calls `f` with each pair whose key begins with the bytes `prefix`, which may be longer than any key, in order,
+    /// and with a view of its key, cut at the branch points. `f` must be callable with each of these in turn. The
+    /// caller keeps `f`.
+    ///
+    /// # Errors
+    ///
+    /// [`TreeError::Memory`] if the tree isn't empty and the allocation for the walk fails. Nothing is then
+    /// visited, and `f` is not called.
+    ///
+    /// # Visits
+    ///
+    /// At most `prefix.len() + 1 + 2 * m` nodes with `m` calls, none in an empty tree.
+    pub fn prefix_for_each_view_by_ref_bytes_counted<F: FnMut(LendingKeyView<'_, '_>, &V)>(
         self,
         prefix: &[u8],
         f: &mut F,
@@ -66,8 +78,8 @@ impl<'a, K: KeyTrait, V, C: Count> Seen<'a, K, V, C> {
         Ok(())
     }
 
-    /// Calls `f` with each pair whose key begins with `prefix`, in order, and with a view of its key, cut at the
-    /// branch points. `f` must be callable with each of these in turn. The caller keeps `f`.
+    /// Calls `f` with a view of each key that begins with `prefix`, as
+    /// [`prefix_for_each_view_by_ref_bytes_counted`](Self::prefix_for_each_view_by_ref_bytes_counted) does.
     ///
     /// # Errors
     ///
@@ -96,7 +108,7 @@ impl<'a, K: KeyTrait, V, C: Count> Seen<'a, K, V, C> {
         ensures bound { C.number counter.new
             ≤ C.number counter.old + below_bound (K.bytes prefix.now) (seen_pairs self.entry) }
     {
-        self.each_view_below(prefix.as_ref(), f, counter)
+        self.prefix_for_each_view_by_ref_bytes_counted(prefix.as_ref(), f, counter)
     }
 
     /// Calls `f` as [`prefix_for_each_view_by_ref_k_counted`](Self::prefix_for_each_view_by_ref_k_counted) does, and
@@ -156,7 +168,7 @@ impl<'a, K: KeyTrait, V, C: Count> Seen<'a, K, V, C> {
         ensures bound { C.number counter.new
             ≤ C.number counter.old + 1 + 2 * length (seen_pairs self.entry) }
     {
-        self.each_view_below(&[], f, counter)
+        self.prefix_for_each_view_by_ref_bytes_counted(&[], f, counter)
     }
 
     /// Calls `f` as [`for_each_view_by_ref_counted`](Self::for_each_view_by_ref_counted) does, and drops it.

@@ -43,9 +43,51 @@ fn try_for_each<'a, P: Partial, V, C: Count, E, F: FnMut(&V) -> Result<VisitCont
 }
 
 impl<'a, K: KeyTrait, V, C: Count> Seen<'a, K, V, C> {
-    /// Calls `f` with the value of each pair whose key begins with `prefix`, in order. `Stop` ends the walk with
-    /// `Ok(())`; an `Err(e)` of the callback ends it with [`VisitError::Callback`]. `f` must be callable with each
-    /// value in turn for as long as it returns `Continue`. The caller keeps `f`.
+    /// Calls `f` with the value of each pair whose key begins with the bytes `prefix`, which may be longer than any key,
+    /// in order. `Stop` ends the walk with `Ok(())`; an `Err(e)` of the callback ends it with
+    /// [`VisitError::Callback`]. `f` must be callable with each value in turn for as long as it returns `Continue`. The
+    /// caller keeps `f`.
+    ///
+    /// # Errors
+    ///
+    /// [`VisitError::Memory`] if the tree isn't empty and the allocation for the walk fails. Nothing is then
+    /// visited, and `f` is not called.
+    ///
+    /// # Visits
+    ///
+    /// At most `prefix.len() + 1 + 2 * m` nodes where `m` keys begin with `prefix`, none in an empty tree. With `n`
+    /// calls in a tree of height `h`, at most the nodes on the path to `prefix`, `2 * n` and `h`.
+    pub fn try_prefix_values_for_each_by_ref_bytes_counted<
+        E,
+        F: FnMut(&V) -> Result<VisitControl, E>,
+    >(self, prefix: &[u8], f: &mut F, counter: &mut C) -> Result<(), VisitError<E>>
+        requires callable { CanTry F.FnMut f.old
+            (values_below prefix.now (seen_pairs self)) }
+        ensures stays_callable { F.IsAlwaysCallable f.old → F.IsAlwaysCallable f.new }
+        ensures calls { EndsVisit F.FnMut f.old
+            (values_below prefix.now (seen_pairs self.entry)) result f.new }
+        ensures memory { IfErr result (MayStopForMemory (seen_pairs self.entry)) }
+        ensures unvisited { OnRefused result (counter.new ≡ counter.old) }
+        ensures visits { IfAllocated result (C.number counter.new ≤ C.number counter.old
+            + below_visits prefix.now (seen_pairs self.entry)) }
+        ensures bound { C.number counter.new
+            ≤ C.number counter.old + below_bound prefix.now (seen_pairs self.entry) }
+        ensures by_calls { CallsSo F.FnMut f.old
+            (values_below prefix.now (seen_pairs self.entry)) result f.new
+            (λ n. C.number counter.new ≤ C.number counter.old
+            + call_visits prefix.now n (seen_pairs self.entry)) }
+    {
+        let Ok((mut walk, _path)) = self.walk_below::<NoPath>(prefix, counter) else {
+            return Err(VisitError::Memory);
+        };
+        match try_for_each(&mut walk, counter, f) {
+            Ok(()) => Ok(()),
+            Err(error) => Err(VisitError::Callback(error)),
+        }
+    }
+
+    /// Calls `f` with the value of each pair whose key begins with `prefix`, as
+    /// [`try_prefix_values_for_each_by_ref_bytes_counted`](Self::try_prefix_values_for_each_by_ref_bytes_counted) does.
     ///
     /// # Errors
     ///
@@ -78,13 +120,7 @@ impl<'a, K: KeyTrait, V, C: Count> Seen<'a, K, V, C> {
             (λ n. C.number counter.new ≤ C.number counter.old
             + call_visits (K.bytes prefix.now) n (seen_pairs self.entry)) }
     {
-        let Ok((mut walk, _path)) = self.walk_below::<NoPath>(prefix.as_ref(), counter) else {
-            return Err(VisitError::Memory);
-        };
-        match try_for_each(&mut walk, counter, f) {
-            Ok(()) => Ok(()),
-            Err(error) => Err(VisitError::Callback(error)),
-        }
+        self.try_prefix_values_for_each_by_ref_bytes_counted(prefix.as_ref(), f, counter)
     }
 
     /// Calls `f` as [`try_prefix_values_for_each_by_ref_k_counted`](Self::try_prefix_values_for_each_by_ref_k_counted)

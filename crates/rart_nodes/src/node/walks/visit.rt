@@ -36,8 +36,18 @@ fn for_each_value<'a, P: Partial, V, C: Count, F: FnMut(&V)>(
 }
 
 impl<'a, K: KeyTrait, V, C: Count> Seen<'a, K, V, C> {
-    /// Calls `f` with the value of each pair whose key begins with the bytes `prefix`, in order.
-    fn each_value_below<F: FnMut(&V)>(
+    /// Calls `f` with the value of each pair whose key begins with the bytes `prefix`, which may be longer than any key,
+    /// in order. `f` must be callable with each of these values in turn. The caller keeps `f`.
+    ///
+    /// # Errors
+    ///
+    /// [`TreeError::Memory`] if the tree isn't empty and the allocation for the walk fails. Nothing is then
+    /// visited, and `f` is not called.
+    ///
+    /// # Visits
+    ///
+    /// At most `prefix.len() + 1 + 2 * m` nodes with `m` calls, none in an empty tree.
+    pub fn prefix_values_for_each_by_ref_bytes_counted<F: FnMut(&V)>(
         self,
         prefix: &[u8],
         f: &mut F,
@@ -60,8 +70,8 @@ impl<'a, K: KeyTrait, V, C: Count> Seen<'a, K, V, C> {
         Ok(())
     }
 
-    /// Calls `f` with the value of each pair whose key begins with `prefix`, in order. `f` must be callable with each
-    /// of these values in turn. The caller keeps `f`.
+    /// Calls `f` with the value of each pair whose key begins with `prefix`, as
+    /// [`prefix_values_for_each_by_ref_bytes_counted`](Self::prefix_values_for_each_by_ref_bytes_counted) does.
     ///
     /// # Errors
     ///
@@ -90,7 +100,7 @@ impl<'a, K: KeyTrait, V, C: Count> Seen<'a, K, V, C> {
         ensures bound { C.number counter.new
             ≤ C.number counter.old + below_bound (K.bytes prefix.now) (seen_pairs self.entry) }
     {
-        self.each_value_below(prefix.as_ref(), f, counter)
+        self.prefix_values_for_each_by_ref_bytes_counted(prefix.as_ref(), f, counter)
     }
 
     /// Calls `f` as [`prefix_values_for_each_by_ref_k_counted`](Self::prefix_values_for_each_by_ref_k_counted) does,

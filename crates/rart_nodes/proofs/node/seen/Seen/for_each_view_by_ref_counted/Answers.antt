@@ -7,8 +7,8 @@ use Rattle.rart_nodes.specs.walks.Viewed.{CanView, ViewsEach}
 use Rattle.rart_trie.proofs.tries.BelowLemmas.{below-nil}
 use Rattle.rart_nodes.proofs.node.seen.Seen.for_each_view_by_ref_counted.Goals as goal
 
-pub each_view_below-requires : goal.each_view_below-requires
-each_view_below-requires g c = record {
+pub prefix_for_each_view_by_ref_bytes_counted-requires : goal.prefix_for_each_view_by_ref_bytes_counted-requires
+prefix_for_each_view_by_ref_bytes_counted-requires g c = record {
   callable = subst (λ (w : List (List ℕ × g.row.V.Denot)). CanView g.F.FnMut c.args.f.now
       (cut_pairs (keys_of (tree_pairs (option_copied c.args.self.root))) w))
       (sym (below-nil (tree_pairs (option_copied c.args.self.root)))) c.requires.callable;
@@ -16,19 +16,19 @@ each_view_below-requires g c = record {
 
 pub returns-clause-calls : goal.returns-clause-calls
 returns-clause-calls g c =
-    subst (λ (w : List (List ℕ × g.row.V.Denot)). OnOk c.each_view_below.result
+    subst (λ (w : List (List ℕ × g.row.V.Denot)). OnOk c.prefix_for_each_view_by_ref_bytes_counted.result
     (ViewsEach g.F.FnMut c.args.f.now (cut_pairs (keys_of (tree_pairs (option_copied c.args.self.root))) w)
-    c.each_view_below.new.f)) (below-nil (tree_pairs (option_copied c.args.self.root)))
-    c.each_view_below.ensures.calls
+    c.prefix_for_each_view_by_ref_bytes_counted.new.f)) (below-nil (tree_pairs (option_copied c.args.self.root)))
+    c.prefix_for_each_view_by_ref_bytes_counted.ensures.calls
 
 pub returns-clause-visits : goal.returns-clause-visits
 returns-clause-visits g c = rw (below-nil (tree_pairs (option_copied c.args.self.root))) at
-    c.each_view_below.ensures.visits
+    c.prefix_for_each_view_by_ref_bytes_counted.ensures.visits
 
 pub returns-clause-bound : goal.returns-clause-bound
 returns-clause-bound g c = omega (
   arith,
-  c.each_view_below.ensures.bound,
+  c.prefix_for_each_view_by_ref_bytes_counted.ensures.bound,
   ap length
       (below-nil (tree_pairs (option_copied c.args.self.root))),
 )

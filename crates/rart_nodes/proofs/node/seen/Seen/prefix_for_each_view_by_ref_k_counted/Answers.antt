@@ -1,7 +1,7 @@
 use Rattle.rart_nodes.proofs.node.seen.Seen.prefix_for_each_view_by_ref_k_counted.Goals as goal
 
-pub each_view_below-requires : goal.each_view_below-requires
-each_view_below-requires g c = record { callable = rw c.as_ref.ensures c.requires.callable }
+pub prefix_for_each_view_by_ref_bytes_counted-requires : goal.prefix_for_each_view_by_ref_bytes_counted-requires
+prefix_for_each_view_by_ref_bytes_counted-requires g c = record { callable = rw c.as_ref.ensures c.requires.callable }
 
 pub returns-clause-calls : goal.returns-clause-calls
-returns-clause-calls g c = rw (← c.as_ref.ensures) c.each_view_below.ensures.calls
+returns-clause-calls g c = rw (← c.as_ref.ensures) c.prefix_for_each_view_by_ref_bytes_counted.ensures.calls

@@ -1,9 +1,9 @@
 use Rattle.std.proofs.Common.{◌≡◌, length, refl, arith}
 use Rattle.rart_nodes.specs.tries.SeenTrees.{seen_pairs}
 use Rattle.rart_trie.specs.tries.Tree.{tree_pairs}
-use Rattle.rart.proofs.tree.AdaptiveRadixTree.take_prefix_k_counted.Given.{Over}
+use Rattle.rart.proofs.tree.AdaptiveRadixTree.take_prefix_bytes_counted.Given.{Over}
 use Rattle.rart.proofs.trees.FieldLemmas.{bound-taken, fields-kept, pairs-counted, part-at_most, rest-counted}
-use Rattle.rart.proofs.tree.AdaptiveRadixTree.take_prefix_k_counted.Goals as goal
+use Rattle.rart.proofs.tree.AdaptiveRadixTree.take_prefix_bytes_counted.Goals as goal
 
 pub count_pairs_counted-len-requires : goal.count_pairs_counted-len-requires
 count_pairs_counted-len-requires g c =
@@ -33,6 +33,6 @@ invariant_of-self-2 g c = fields-kept _ _ _ _ _ _ _ c.self.invariant c.in_ok-roo
     c.length_kept-self-inside.ensures.some
 
 pub returns-clause-bound : goal.returns-clause-bound
-returns-clause-bound g c = rw (← c.self.view_is) (bound-taken _ _ _ _ _ _ _ _ c.as_ref-bytes.ensures
+returns-clause-bound g c = rw (← c.self.view_is) (bound-taken _ _ _ _ _ _ _ _ refl
     c.in_ok-root.ensures.taken c.in_ok-root.ensures.bound c.count_pairs_counted-len.ensures.bound
     (pairs-counted _ _ _ _ refl c.of-seen.ensures.root c.as_ref.ensures.value))

@@ -6,7 +6,7 @@ use Rattle.rart_nodes.proofs.walks.PathLemmas.{key-walk}
 use Rattle.rart_trie.proofs.tries.CanonicalTests.{IsCanonicalTree-test}
 use Rattle.rart_nodes.proofs.walks.PartLemmas.{part-keys}
 use Rattle.rart_nodes.proofs.walks.EntryLemmas.{joins-bytes}
-use Rattle.rart_nodes.proofs.node.seen.Seen.key_walk_below.Goals as goal
+use Rattle.rart_nodes.proofs.node.seen.Seen.prefix_iter_bytes_counted.Goals as goal
 
 pub invariant_of-result : goal.invariant_of-result
 invariant_of-result g c

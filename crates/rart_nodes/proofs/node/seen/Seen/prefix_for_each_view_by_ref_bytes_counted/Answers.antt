@@ -5,7 +5,7 @@ use Rattle.rart_nodes.specs.walks.ViewSegments.{AreViews}
 use Rattle.rart_nodes.specs.walks.Viewed.{CanView, ViewsEach}
 use Rattle.rart_trie.proofs.tries.CanonicalTests.{IsCanonicalTree-test}
 use Rattle.rart_nodes.proofs.walks.PartCuts.{part-cut, part-views}
-use Rattle.rart_nodes.proofs.node.seen.Seen.each_view_below.Goals as goal
+use Rattle.rart_nodes.proofs.node.seen.Seen.prefix_for_each_view_by_ref_bytes_counted.Goals as goal
 
 pub for_each_view_of-requires-clause-views : goal.for_each_view_of-requires-clause-views
 for_each_view_of-requires-clause-views g c =
