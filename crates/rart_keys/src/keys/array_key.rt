@@ -8,6 +8,7 @@ use crate::keys::KeyTrait;
 use crate::partials::Partial;
 use crate::partials::array_partial::ArrPartial;
 use std::cmp::Ordering;
+use std::hash::{Hash, Hasher};
 
 mod numbers;
 mod texts;
@@ -119,6 +120,24 @@ impl<const N: usize> Ord for ArrayKey<N> {
 
     fn cmp(&self, other: &Self) -> Ordering {
         compare_bytes(self.as_slice(), other.as_slice())
+    }
+}
+
+impl<const N: usize> Hash for ArrayKey<N> {
+    ghost use Rattle.std.specs.Prelude.{◌++◌, ◌∷◌, [], length};
+    ghost use Rattle.std.specs.Hash as fed;
+    ghost use Rattle.std.specs.Cmp.Rules.{hashing};
+    ghost use Rattle.std.proofs.Common.{rules};
+    ghost use Rattle.rart_keys.specs.ArrayKeyBytes.{array_key_bytes};
+
+    ghost hash_input = { λ k. fed.usize (length (array_key_bytes k)) ++ array_key_bytes k ∷ [] };
+
+    ghost respects_eq = { Prim.search (hashing, rules) };
+
+    fn hash<H: Hasher>(&self, state: &mut H) {
+        let bytes = self.as_slice();
+        state.write_usize(bytes.len());
+        state.write(bytes);
     }
 }
 

@@ -8,6 +8,7 @@ use crate::keys::KeyTrait;
 use crate::partials::Partial;
 use crate::partials::array_partial::ArrPartial;
 use std::cmp::Ordering;
+use std::hash::{Hash, Hasher};
 
 /// Holds at most `N` bytes of a key at the end of its array. The bytes of the array before the key are zero.
 #[derive(Clone, Copy, Debug)]
@@ -21,8 +22,27 @@ pub struct TailKey<const N: usize> {
 }
 
 impl<const N: usize> TailKey<N> {
-    ghost use Rattle.std.specs.Prelude.{◌≡◌, ◌+◌, ◌≤◌, ◌++◌, length};
+    ghost use Rattle.std.specs.Prelude.{◌≡◌, ◌+◌, ◌<◌, ◌≤◌, ◌↔◌, ◌++◌, length, IfSome, None};
     ghost use Rattle.rart_keys.specs.TailKeyBytes.{tail_key_bytes};
+
+    /// Returns the key with the bytes of `slice`, `None` if these are more than `N`.
+    pub fn try_from_slice(slice: &[u8]) -> Option<Self>
+        ensures key { IfSome result (λ k. tail_key_bytes k ≡ slice.now) }
+        ensures too_long { (result ≡ None) ↔ (N < length slice.now) }
+    {
+        if slice.len() > N {
+            return None;
+        }
+        Some(Self::from_two(slice, &[]))
+    }
+
+    /// Returns the key with the bytes of `s`, `None` if these are more than `N`.
+    pub fn try_from_str(s: &str) -> Option<Self>
+        ensures key { IfSome result (λ k. tail_key_bytes k ≡ s.now) }
+        ensures too_long { (result ≡ None) ↔ (N < length s.now) }
+    {
+        Self::try_from_slice(s.as_bytes())
+    }
 
     // Every new value is made here, so that the zeros before its bytes are shown once.
     fn from_two(first: &[u8], second: &[u8]) -> Self
@@ -101,6 +121,24 @@ impl<const N: usize> Ord for TailKey<N> {
 
     fn cmp(&self, other: &Self) -> Ordering {
         compare_bytes(self.as_slice(), other.as_slice())
+    }
+}
+
+impl<const N: usize> Hash for TailKey<N> {
+    ghost use Rattle.std.specs.Prelude.{◌++◌, ◌∷◌, [], length};
+    ghost use Rattle.std.specs.Hash as fed;
+    ghost use Rattle.std.specs.Cmp.Rules.{hashing};
+    ghost use Rattle.std.proofs.Common.{rules};
+    ghost use Rattle.rart_keys.specs.TailKeyBytes.{tail_key_bytes};
+
+    ghost hash_input = { λ k. fed.usize (length (tail_key_bytes k)) ++ tail_key_bytes k ∷ [] };
+
+    ghost respects_eq = { Prim.search (hashing, rules) };
+
+    fn hash<H: Hasher>(&self, state: &mut H) {
+        let bytes = self.as_slice();
+        state.write_usize(bytes.len());
+        state.write(bytes);
     }
 }
 

@@ -1,5 +1,6 @@
-//! Conversions of texts and byte arrays to keys.
-ghost use Rattle.std.specs.Prelude.{◌≡◌, ◌+◌, ◌≤◌, ◌++◌, ◌∷◌, [], length, string_bytes, string_len};
+//! Conversions of texts, slices and byte arrays to keys.
+ghost use Rattle.std.specs.Prelude.{◌≡◌, ◌+◌, ◌<◌, ◌≤◌, ◌↔◌, ◌++◌, ◌∷◌, [], length, string_bytes, string_len};
+ghost use Rattle.std.specs.Prelude.{IfSome, None};
 ghost use Rattle.rart_keys.specs.ArrayKeyBytes.{array_key_bytes};
 
 use crate::keys::array_key::ArrayKey;
@@ -8,6 +9,25 @@ use crate::keys::array_key::ArrayKey;
 const CLOSING_ZERO: [u8; 1] = [0];
 
 impl<const N: usize> ArrayKey<N> {
+    /// Returns the key with the bytes of `slice`, `None` if these are more than `N`.
+    pub fn try_from_slice(slice: &[u8]) -> Option<Self>
+        ensures key { IfSome result (λ k. array_key_bytes k ≡ slice.now) }
+        ensures too_long { (result ≡ None) ↔ (N < length slice.now) }
+    {
+        if slice.len() > N {
+            return None;
+        }
+        Some(Self::from_two(slice, &[]))
+    }
+
+    /// Returns the key with the bytes of `s`, `None` if these are more than `N`.
+    pub fn try_from_str(s: &str) -> Option<Self>
+        ensures key { IfSome result (λ k. array_key_bytes k ≡ s.now) }
+        ensures too_long { (result ≡ None) ↔ (N < length s.now) }
+    {
+        Self::try_from_slice(s.as_bytes())
+    }
+
     /// Returns the key with the bytes of `s`, which must have at most `N`.
     pub fn new_from_str(s: &str) -> Self
         requires { length s.now ≤ N }
