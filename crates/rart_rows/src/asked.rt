@@ -35,6 +35,11 @@ impl<'a, K: KeyTrait + Drop> Asked<'a, K> {
         same_key(&self.key)
     }
 
+    /// The bytes of the key, for a call that is given these.
+    pub fn bytes(&self) -> &[u8] {
+        self.key.as_ref()
+    }
+
     pub fn args(&self) -> &'a Args<'a> {
         &self.row.args
     }

@@ -10,6 +10,7 @@ pub mod many;
 pub mod pairs;
 pub mod routes;
 pub mod step;
+pub mod table_changes;
 pub mod tables;
 pub mod turns;
 pub mod updates;

@@ -11,16 +11,22 @@ pub enum Form {
     LentReference,
     /// The key is taken, a callback is borrowed: `_by_ref`.
     LentValue,
+    /// The key is given by its bytes, a callback is taken: `_bytes`.
+    Bytes,
+    /// The key is given by its bytes, a callback is borrowed: `_by_ref_bytes`.
+    LentBytes,
     /// By `script::step`, where the call is one as a value, and else as `Reference`.
     Step,
 }
 
 /// The forms in which rows are played.
-pub const FORMS: [Form; 5] = [
+pub const FORMS: [Form; 7] = [
     Form::Reference,
     Form::Value,
     Form::LentReference,
     Form::LentValue,
+    Form::Bytes,
+    Form::LentBytes,
     Form::Step,
 ];
 
@@ -32,7 +38,15 @@ impl Form {
 
     /// Whether a callback is borrowed.
     pub fn lends(self) -> bool {
-        matches!(self, Form::LentReference | Form::LentValue)
+        matches!(
+            self,
+            Form::LentReference | Form::LentValue | Form::LentBytes
+        )
+    }
+
+    /// Whether the key is given by its bytes.
+    pub fn gives_bytes(self) -> bool {
+        matches!(self, Form::Bytes | Form::LentBytes)
     }
 
     pub fn name(self) -> &'static str {
@@ -41,6 +55,8 @@ impl Form {
             Form::Value => "by value",
             Form::LentReference => "by reference, callback lent",
             Form::LentValue => "by value, callback lent",
+            Form::Bytes => "by bytes",
+            Form::LentBytes => "by bytes, callback lent",
             Form::Step => "by step",
         }
     }

@@ -21,6 +21,7 @@ pub enum Call {
     Reach(Reach),
     TableRead(TableRead),
     TableEdit(TableEdit),
+    TableChange(TableChange),
     Tables(Tables),
 }
 
@@ -169,6 +170,9 @@ pub enum Route {
     Replace,
     Withdraw,
     Get,
+    ContainsKey,
+    GetMut,
+    RemovePrefix,
     RouteWithPrefix,
     CoveringForEach,
     BelowForEach,
@@ -193,6 +197,7 @@ pub enum TableRead {
     LastKeyValue,
     Iter,
     IterBothEnds,
+    AsTree,
 }
 
 /// Edits of a whole route table.
@@ -203,6 +208,13 @@ pub enum TableEdit {
     Clear,
     FromPairs,
     Extend,
+}
+
+/// Edits of a whole route table by a callback.
+#[derive(Clone, Copy)]
+pub enum TableChange {
+    Retain,
+    ForEachValueMut,
 }
 
 /// Calls on both route tables.

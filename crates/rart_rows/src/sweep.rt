@@ -2,7 +2,7 @@
 
 use crate::answer::Answer;
 use crate::form::Form;
-use crate::names::{Both, Call, Insertion, Load, Many, TableEdit, Tables};
+use crate::names::{Both, Call, Insertion, Load, Many, TableChange, TableEdit, Tables};
 use crate::play::Wanted;
 use crate::report::Report;
 use crate::request::Edit;
@@ -33,6 +33,7 @@ fn left_by(row: &Row<'_>) -> Left {
         | Call::Both(Both::Append)
         | Call::Load(Load::Extend)
         | Call::TableEdit(TableEdit::Extend)
+        | Call::TableChange(TableChange::Retain)
         | Call::Tables(Tables::Append) => Left::Part,
         Call::Group(_) => Left::Unrefused,
         _ => Left::All,

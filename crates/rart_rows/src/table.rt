@@ -2,7 +2,7 @@
 
 use crate::names::{
     Both, Call, Callback, Group, Insertion, Load, Look, Many, Pairs, Probe, Reach, Removal, Route,
-    TableEdit, TableRead, Tables, Turns, Values, Views, Whole,
+    TableChange, TableEdit, TableRead, Tables, Turns, Values, Views, Whole,
 };
 
 /// A name, its call, and a letter for each argument.
@@ -174,12 +174,22 @@ static NAMES: [Entry; 70] = [
     ("holds", Call::Group(Group::Holds), "bv"),
 ];
 
-static ROUTE_NAMES: [Entry; 29] = [
+static ROUTE_NAMES: [Entry; 35] = [
     ("add", Call::Route(Route::Add), "kv"),
     ("add_new", Call::Route(Route::AddNew), "kv"),
     ("replace", Call::Route(Route::Replace), "kv"),
     ("withdraw", Call::Route(Route::Withdraw), "k"),
     ("get", Call::Route(Route::Get), "k"),
+    ("contains_key", Call::Route(Route::ContainsKey), "k"),
+    ("get_mut", Call::Route(Route::GetMut), "kv"),
+    ("remove_prefix", Call::Route(Route::RemovePrefix), "k"),
+    ("retain", Call::TableChange(TableChange::Retain), "rv"),
+    (
+        "for_each_value_mut",
+        Call::TableChange(TableChange::ForEachValueMut),
+        "v",
+    ),
+    ("as_tree", Call::TableRead(TableRead::AsTree), ""),
     (
         "route_with_prefix",
         Call::Route(Route::RouteWithPrefix),

@@ -12,6 +12,7 @@ use crate::calls::many::edit_many;
 use crate::calls::pairs::walk;
 use crate::calls::routes::{call_route, reach};
 use crate::calls::step::{call_of, put_reply};
+use crate::calls::table_changes::change_table;
 use crate::calls::tables::{call_tables, edit_table, read_table};
 use crate::calls::turns::walk_by_turns;
 use crate::calls::views::view;
@@ -119,6 +120,7 @@ fn call_routes<K: KeyTrait + Drop>(
         Call::Reach(name) => reach(table, args.probe.as_slice(), name, form, answer),
         Call::TableRead(name) => read_table(table, name, args.turns, answer),
         Call::TableEdit(name) => edit_table(alloc, table, name, items, answer),
+        Call::TableChange(name) => change_table(table, name, args, form, answer),
         Call::Tables(name) => call_tables(table, other, name, answer),
         _ => {}
     }

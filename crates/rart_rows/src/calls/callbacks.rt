@@ -21,6 +21,8 @@ fn match_for_each<K: KeyTrait + Drop>(tree: &Tree<K>, asked: &Asked<'_, K>, answ
         Form::Value => tree.prefix_match_for_each(asked.taken(), show),
         Form::LentReference => tree.prefix_match_for_each_by_ref_k(&asked.key, &mut show),
         Form::LentValue => tree.prefix_match_for_each_by_ref(asked.taken(), &mut show),
+        Form::Bytes => tree.prefix_match_for_each_bytes(asked.bytes(), show),
+        Form::LentBytes => tree.prefix_match_for_each_by_ref_bytes(asked.bytes(), &mut show),
         Form::Reference | Form::Step => tree.prefix_match_for_each_k(&asked.key, show),
     }
 }
@@ -49,6 +51,8 @@ fn values_for_each<K: KeyTrait + Drop>(
         Form::Value => tree.prefix_values_for_each(asked.taken(), show),
         Form::LentReference => tree.prefix_values_for_each_by_ref_k(&asked.key, &mut show),
         Form::LentValue => tree.prefix_values_for_each_by_ref(asked.taken(), &mut show),
+        Form::Bytes => tree.prefix_values_for_each_bytes(asked.bytes(), show),
+        Form::LentBytes => tree.prefix_values_for_each_by_ref_bytes(asked.bytes(), &mut show),
         Form::Reference | Form::Step => tree.prefix_values_for_each_k(&asked.key, show),
     }
 }
@@ -71,6 +75,8 @@ fn fold<K: KeyTrait + Drop>(
         Form::Value => tree.prefix_values_fold(asked.taken(), 1_u64, add),
         Form::LentReference => tree.prefix_values_fold_by_ref_k(&asked.key, 1_u64, &mut add),
         Form::LentValue => tree.prefix_values_fold_by_ref(asked.taken(), 1_u64, &mut add),
+        Form::Bytes => tree.prefix_values_fold_bytes(asked.bytes(), 1_u64, add),
+        Form::LentBytes => tree.prefix_values_fold_by_ref_bytes(asked.bytes(), 1_u64, &mut add),
         Form::Reference | Form::Step => tree.prefix_values_fold_k(&asked.key, 1_u64, add),
     }
 }
@@ -109,6 +115,8 @@ fn try_values<K: KeyTrait + Drop>(
         Form::Value => tree.try_prefix_values_for_each(asked.taken(), show),
         Form::LentReference => tree.try_prefix_values_for_each_by_ref_k(&asked.key, &mut show),
         Form::LentValue => tree.try_prefix_values_for_each_by_ref(asked.taken(), &mut show),
+        Form::Bytes => tree.try_prefix_values_for_each_bytes(asked.bytes(), show),
+        Form::LentBytes => tree.try_prefix_values_for_each_by_ref_bytes(asked.bytes(), &mut show),
         Form::Reference | Form::Step => tree.try_prefix_values_for_each_k(&asked.key, show),
     }
 }

@@ -140,6 +140,17 @@ fn get_mut<K: KeyTrait + Drop>(tree: &mut Tree<K>, key: K, value: u64) -> Option
     }
 }
 
+fn get_mut_bytes<K: KeyTrait>(tree: &mut Tree<K>, key: &[u8], value: u64) -> Option<u64> {
+    match tree.get_mut_bytes(key) {
+        Some(place) => {
+            let old = *place;
+            *place = value;
+            Some(old)
+        }
+        None => None,
+    }
+}
+
 fn overwrite<K: KeyTrait + Drop>(
     tree: &mut Tree<K>,
     key: &K,
@@ -148,6 +159,8 @@ fn overwrite<K: KeyTrait + Drop>(
 ) -> Option<u64> {
     if form.takes_key() {
         get_mut(tree, same_key(key), value)
+    } else if form.gives_bytes() {
+        get_mut_bytes(tree, key.as_ref(), value)
     } else {
         get_mut_k(tree, key, value)
     }
@@ -180,6 +193,8 @@ fn remove<K: KeyTrait + Drop>(
 ) -> Result<Option<u64>, TreeError> {
     if form.takes_key() {
         tree.remove(same_key(key))
+    } else if form.gives_bytes() {
+        tree.remove_bytes(key.as_ref())
     } else {
         tree.remove_k(key)
     }
@@ -188,6 +203,8 @@ fn remove<K: KeyTrait + Drop>(
 fn delete<K: KeyTrait + Drop>(tree: &mut Tree<K>, key: &K, form: Form) -> Result<bool, TreeError> {
     if form.takes_key() {
         tree.delete(same_key(key))
+    } else if form.gives_bytes() {
+        tree.delete_bytes(key.as_ref())
     } else {
         tree.delete_k(key)
     }

@@ -10,7 +10,8 @@ use rart::{IntoPairs, KeyTrait, TreeError};
 use std::alloc::Global;
 use std::mem;
 
-fn put_done(done: Result<(), TreeError>, answer: &mut Answer) {
+/// The end of what a callback showed, or the refusal after it.
+pub fn put_done(done: Result<(), TreeError>, answer: &mut Answer) {
     match done {
         Ok(()) => answer.end(),
         Err(error) => answer.error(error),
@@ -44,12 +45,15 @@ fn remove_prefix<K: KeyTrait + Drop>(
 ) -> Result<usize, TreeError> {
     if asked.form.takes_key() {
         tree.remove_prefix(asked.taken())
+    } else if asked.form.gives_bytes() {
+        tree.remove_prefix_bytes(asked.bytes())
     } else {
         tree.remove_prefix_k(&asked.key)
     }
 }
 
-fn put_removed_count(removed: Result<usize, TreeError>, answer: &mut Answer) {
+/// How many pairs were removed, or the refusal.
+pub fn put_removed_count(removed: Result<usize, TreeError>, answer: &mut Answer) {
     match removed {
         Ok(count) => answer.count(count),
         Err(error) => answer.error(error),
@@ -62,6 +66,8 @@ fn taken<K: KeyTrait + Drop>(
 ) -> Result<Tree<K>, TreeError> {
     if asked.form.takes_key() {
         tree.take_prefix(asked.taken())
+    } else if asked.form.gives_bytes() {
+        tree.take_prefix_bytes(asked.bytes())
     } else {
         tree.take_prefix_k(&asked.key)
     }

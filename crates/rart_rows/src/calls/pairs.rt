@@ -81,6 +81,8 @@ fn values_iter<K: KeyTrait>(tree: &Tree<K>, answer: &mut Answer) {
 fn prefix_iter<K: KeyTrait + Drop>(tree: &Tree<K>, asked: &Asked<'_, K>, answer: &mut Answer) {
     if asked.form.takes_key() {
         put_iter(tree.prefix_iter(asked.taken()), answer);
+    } else if asked.form.gives_bytes() {
+        put_iter(tree.prefix_iter_bytes(asked.bytes()), answer);
     } else {
         put_iter(tree.prefix_iter_k(&asked.key), answer);
     }

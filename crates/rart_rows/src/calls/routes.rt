@@ -3,6 +3,7 @@
 use crate::answer::Answer;
 use crate::calls::edits::{put_inserted, put_new, put_removed, put_tried};
 use crate::calls::looks::put_found;
+use crate::calls::many::put_removed_count;
 use crate::form::Form;
 use crate::names::{Reach, Route};
 use crate::world::Table;
@@ -47,6 +48,18 @@ fn put_walked(walked: Result<(), TreeError>, answer: &mut Answer) {
     }
 }
 
+// Writes the target over the stored one, which it returns.
+fn overwrite<K: KeyTrait>(table: &mut Table<K>, prefix: &K, target: u64) -> Option<u64> {
+    match table.get_mut(prefix) {
+        Some(place) => {
+            let old = *place;
+            *place = target;
+            Some(old)
+        }
+        None => None,
+    }
+}
+
 /// Makes a call at a prefix.
 pub fn call_route<K: KeyTrait + Drop>(
     table: &mut Table<K>,
@@ -62,6 +75,9 @@ pub fn call_route<K: KeyTrait + Drop>(
         Route::Replace => put_inserted(table.replace(prefix, target), target, answer),
         Route::Withdraw => put_removed(table.withdraw(prefix), answer),
         Route::Get => answer.value(table.get(prefix).copied()),
+        Route::ContainsKey => answer.truth(table.contains_key(prefix)),
+        Route::GetMut => answer.value(overwrite(table, prefix, target)),
+        Route::RemovePrefix => put_removed_count(table.remove_prefix(prefix), answer),
         Route::RouteWithPrefix => put_found(table.route_with_prefix(prefix), answer),
         Route::CoveringForEach => {
             covering(table, prefix, form, answer);

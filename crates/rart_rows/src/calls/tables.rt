@@ -33,6 +33,7 @@ pub fn read_table<K: KeyTrait + Drop>(
         TableRead::FirstKeyValue => put_found(table.first_key_value(), answer),
         TableRead::LastKeyValue => put_found(table.last_key_value(), answer),
         TableRead::Iter => put_iter(table.iter(), answer),
+        TableRead::AsTree => put_iter(table.as_tree().iter(), answer),
         TableRead::IterBothEnds => put_both_ends(table.iter_both_ends(), turns, answer),
     }
 }

@@ -37,6 +37,8 @@ fn prefix_views<K: KeyTrait + Drop>(
         Form::Value => tree.prefix_for_each_view(asked.taken(), show),
         Form::LentReference => tree.prefix_for_each_view_by_ref_k(&asked.key, &mut show),
         Form::LentValue => tree.prefix_for_each_view_by_ref(asked.taken(), &mut show),
+        Form::Bytes => tree.prefix_for_each_view_bytes(asked.bytes(), show),
+        Form::LentBytes => tree.prefix_for_each_view_by_ref_bytes(asked.bytes(), &mut show),
         Form::Reference | Form::Step => tree.prefix_for_each_view_k(&asked.key, show),
     }
 }
@@ -63,9 +65,11 @@ fn longest_view<K: KeyTrait + Drop>(
     let mut show = |view: LendingKeyView<'_, '_>, value: &u64| answer.view(view, *value);
     match asked.form {
         Form::Value => tree.with_longest_prefix_match_view(asked.taken(), show),
-        Form::LentReference => tree.with_longest_prefix_match_view_by_ref_k(&asked.key, &mut show),
+        Form::LentReference | Form::LentBytes => {
+            tree.with_longest_prefix_match_view_by_ref_k(&asked.key, &mut show)
+        }
         Form::LentValue => tree.with_longest_prefix_match_view_by_ref(asked.taken(), &mut show),
-        Form::Reference | Form::Step => tree.with_longest_prefix_match_view_k(&asked.key, show),
+        _ => tree.with_longest_prefix_match_view_k(&asked.key, show),
     }
 }
 
