@@ -6,8 +6,8 @@ usage: readme_commands.py [PASSED FAILED]
 They are the lines of the first `sh` block, but for `./test`, which runs this. After the gate, `./run` finds its program
 built; that it can prove it is not tried. Each command must end with the status, standard output and standard error of
 its row, and README must say so: the answers are what it has first in back quotes after the block, but for the two
-routes of the last. Then come other calls of the three scripts: usage, arguments that they don't take, a link to one,
-and an output or a folder that can't be written. All run side by side.
+routes of the last. Then come other calls of the scripts, `./rows` among them: usage, arguments that they don't take, a link to
+one, an output or a folder that can't be written. All run side by side.
 
 PASSED and FAILED are the counts of the step before, 0 if not given. The last line adds the commands to them.
 """
@@ -68,6 +68,21 @@ OTHER_ROWS = [
     ("echo len | ./try >/dev/full", 1, "", f"{UNPROVED}try: cannot write\n"),
     ('d=$(mktemp -d); ln -s "$PWD/run" "$d"; echo len | "$d/run"; s=$?; rm -r "$d"; exit $s', 0, "0\n", ""),
     ('d=$(mktemp -d); ln -s "$PWD/try" "$d"; echo len | "$d/try"; s=$?; rm -r "$d"; exit $s', 0, "0\n", UNPROVED),
+]
+
+ROWS_USAGE = "usage: ./rows [--print] [FILE ..]\n"
+
+# Rows on standard input, and their play in all forms, the second time with each request refused.
+SPLIT = "printf 'keys array 8\\ninsert a 1 -> none\\ninsert ab 2 -> none\\n'"
+PLAYED = "2 rows, 0 wrong answers, 0 unreadable lines, "
+
+OTHER_ROWS += [
+    ("./rows --help", 0, ROWS_USAGE, ""),
+    ("./rows -x", 2, "", f"rows: {ROWS_USAGE}"),
+    ("./rows nofile", 2, "", "rows: nofile: No such file or directory\n"),
+    ("./rows tests/edits/ends.rows >/dev/full", 1, "", "rows: cannot write\n"),
+    ("./rows >&-", 1, "", "rows: cannot write\n"),
+    (f"{SPLIT} | ./rows /dev/stdin", 0, f"{PLAYED}0 requests refused\n{PLAYED}17 requests refused\n", ""),
 ]
 
 # Far more seconds than a command takes, on a busy machine too, and less than it takes to prove a program.
