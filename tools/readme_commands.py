@@ -6,8 +6,8 @@ usage: readme_commands.py [PASSED FAILED]
 They are the lines of the first `sh` block, but for `./test`, which runs this. After the gate, `./run` finds its program
 built; that it can prove it is not tried. Each command must end with the status, standard output and standard error of
 its row, and README must say so: the answers are what it has first in back quotes after the block, but for the two
-routes of the last. Then come other calls of the scripts, `./rows` among them: usage, arguments that they don't take, a link to
-one, an output or a folder that can't be written. All run side by side.
+routes of the last. Then come other calls of the scripts, `./rows` among them: usage, arguments that they don't take, a
+link to one, an output or a folder that can't be written. All run side by side.
 
 PASSED and FAILED are the counts of the step before, 0 if not given. The last line adds the commands to them.
 """
