@@ -1,9 +1,11 @@
 //! Iterators of the map, and look-ups and walks of a tree that is seen.
 
 use rart::{
-    AdaptiveRadixTree, ArrPartial, ArrayKey, Iter, KeyTrait, Seen, SeenIter, ValuesIter, Visits,
+    AdaptiveRadixTree, ArrPartial, ArrayKey, BothEndsWithin, Iter, KeyTrait, Seen, SeenIter,
+    ValuesIter, Visits,
 };
 use std::alloc::Global;
+use std::ops::Bound;
 use std::panic::Expect;
 
 type Key = ArrayKey<4>;
@@ -175,4 +177,27 @@ fn gives_five_counted(tree: &Tree) -> bool {
 fn a_counted_iteration_answers_as_the_plain_one(rt: HostRuntime) {
     let tree = filled(rt.alloc()).expect(&rt, "a tree");
     assert!(rt; gives_five_counted(&tree));
+}
+
+fn digits(pairs: BothEndsWithin<'_, Key, u64>) -> u64 {
+    let mut digits = 0_u64;
+    for (_key, value) in pairs.rev().take(2) {
+        digits = digits.wrapping_mul(10).wrapping_add(*value);
+    }
+    digits
+}
+
+// The last two values before "b", the last first, as digits.
+fn last_two(tree: &Tree) -> Option<u64> {
+    let end = Bound::Excluded(Key::new_from_slice(b"b"));
+    match tree.range_both_ends(Bound::Unbounded, end) {
+        Ok(pairs) => Some(digits(pairs)),
+        Err(_refused) => None,
+    }
+}
+
+#[test]
+fn the_last_two_before_a_bound(rt: HostRuntime) {
+    let tree = filled(rt.alloc()).expect(&rt, "a tree");
+    assert_eq!(rt; last_two(&tree), Some(32));
 }

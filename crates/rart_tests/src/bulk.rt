@@ -5,6 +5,7 @@ ghost use Rattle.rart_keys.specs.SortedMap.{IsAscending};
 ghost use Rattle.rart.specs.Steps.{pairs_in};
 
 mod drops;
+mod extensions;
 pub mod rows;
 
 use crate::bulk::rows::{Pairs, key_of};
