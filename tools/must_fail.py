@@ -152,7 +152,8 @@ class Libraries:
         self.kit = pathlib.Path(page).parent
         lines = (TOP / "crates.txt").read_text().splitlines()
         rows = (line.partition(":") for line in lines if line and not line.startswith("#"))
-        self.named = {name.strip(): below.split() for name, _, below in rows}
+        # a static library's line has a word after its name
+        self.named = {name.split()[0]: below.split() for name, _, below in rows}
 
     def lanes(self):
         """How many crates may be tried at once: as many after `rt ci` as processors and memory serve."""

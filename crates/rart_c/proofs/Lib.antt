@@ -1,0 +1,3 @@
+pub mod Batches
+pub mod Handles32
+pub mod Raws
