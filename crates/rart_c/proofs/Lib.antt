@@ -1,3 +1,3 @@
 pub mod Batches
 pub mod Handles32
-pub mod Raws
+pub mod ParkedBoxes

@@ -2,17 +2,15 @@
 use Rattle.std.specs.Prelude.{◌≡◌, [], Option, None, Some, Result, Ok, Err}
 use Rattle.std.specs.Global.{Box}
 use Rattle.std.specs.declared.alloc.AllocError.{AllocError}
-use Rattle.std_heap.specs.declared.Global.{Global}
 use Rattle.rart_c.specs.declared.map32.Map32.{Map32}
-use Rattle.rart_c.specs.declared.raw.Raw.{Raw}
 
 abbrev pub empty_map : Map32
 empty_map = record { tree = record { pairs = []; nodes = [] } }
 
--- a handle of this map is opened
-abbrev pub Opens : Map32 → Option (Raw Map32 Global) → Type 0
-Opens m None = m ≡ empty_map
-Opens m (Some raw) = raw.value ≡ m
+-- the map of a handle whose parked box holds this
+abbrev pub map_of : Option Map32 → Map32
+map_of None = empty_map
+map_of (Some m) = m
 
 -- the map is taken out of its handle
 abbrev pub Takes : Map32 → Option (Box Map32) → Type 0

@@ -5,4 +5,6 @@ pub mod Handles32
 pub mod Heap
 pub mod Owned32
 pub mod Pairs32
+pub mod Parked
+pub mod ParkedAt
 pub mod Stats

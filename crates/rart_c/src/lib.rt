@@ -6,6 +6,6 @@
 
 mod bounds;
 mod map32;
-mod raw;
+mod parked;
 mod stats;
 mod status;

@@ -1,10 +1,10 @@
 //! A handle of a map: null, or the pointer of the box that holds it.
 ghost use Rattle.std.specs.Prelude.{◌≡◌};
 ghost use Rattle.rart_c.specs.declared.map32.Map32.{Map32 as Held};
-ghost use Rattle.rart_c.specs.Handles32.{empty_map, Opens, Takes, TakesOrMakes};
+ghost use Rattle.rart_c.specs.Handles32.{empty_map, map_of, Takes, TakesOrMakes};
 
 use crate::map32::{Map32, Tree};
-use crate::raw::Raw;
+use crate::parked::Parked;
 use std::alloc::{AllocError, Global};
 use std::marker::Model;
 use std::mem::replace;
@@ -24,32 +24,19 @@ impl Model for Rart32 {
 }
 
 impl Rart32 {
-    fn empty() -> Rart32
-        ensures { result.held ≡ empty_map }
+    fn hold(parked: Parked<Map32>) -> Rart32
+        ensures { result.held ≡ map_of parked.value }
     {
-        Rart32 {
-            at: std::ptr::null_mut(),
-        }
-    }
-
-    fn hold(raw: Raw<Map32, Global>) -> Rart32
-        ensures { result.held ≡ raw.value }
-    {
-        let Raw { at, alloc: _ } = raw;
+        let Parked { at } = parked;
         Rart32 { at: at as *mut u8 }
     }
 
-    fn open(self, alloc: Global) -> Option<Raw<Map32, Global>>
-        ensures { Opens self.held result }
+    fn release(self) -> Parked<Map32>
+        ensures { self.held ≡ map_of result.value }
     {
         let Rart32 { at } = self;
-        if at.is_null() {
-            None
-        } else {
-            Some(Raw {
-                at: at as *mut Map32,
-                alloc,
-            })
+        Parked {
+            at: at as *mut Map32,
         }
     }
 }
@@ -59,7 +46,8 @@ pub(crate) fn take(map: &mut Rart32, alloc: Global) -> Option<Box<Map32>>
     ensures takes { Takes map.old.held result }
     ensures left { map.new.held ≡ empty_map }
 {
-    Some(replace(map, Rart32::empty()).open(alloc)?.into_box())
+    let held = replace(map, Rart32::hold(Parked::none()));
+    held.release().take_out(alloc)
 }
 
 /// Takes the map out of a handle and leaves null; from a null handle, makes an empty map.
@@ -84,9 +72,6 @@ pub(crate) fn take_or_make(map: &mut Rart32, alloc: Global) -> Result<Box<Map32>
 pub(crate) fn give(map: &mut Rart32, alloc: Global, held: Box<Map32>)
     ensures { map.new.held ≡ held.value }
 {
-    let old = replace(map, Rart32::hold(Raw::of(held)));
-    match old.open(alloc) {
-        Some(raw) => drop(raw.into_box()),
-        None => {}
-    }
+    let old = replace(map, Rart32::hold(Parked::of(held)));
+    drop(old.release().take_out(alloc));
 }
