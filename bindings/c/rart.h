@@ -55,6 +55,9 @@ extern "C" {
 /* A bound is none of unbounded, included and excluded. Nothing has changed. */
 #define RART_BAD_BOUND 5
 
+/* A key is below the one before it. Nothing has changed. */
+#define RART_UNSORTED 6
+
 /* The nodes of a map, counted. */
 typedef struct rart_stats {
   /* Nodes without children. */
@@ -208,6 +211,15 @@ uint8_t rart32_range_descending(rart32 *map, uint8_t start_kind, const uint8_t *
  */
 uint8_t rart32_matches(rart32 *map, const uint8_t *probe, size_t probe_len, rart32_pair *out,
     size_t out_len, size_t *written, bool *more);
+
+/* Replaces all pairs of a map by those of a buffer, whose keys must ascend; of equal keys the last pair stays. Writes
+ *   the
+ * place of the first pair that is refused, if its key is too long or below the one before it, to `at`.
+ *
+ * Proved: Loads 32 (map (λ p. p.len) pairs.now) (map pair_in pairs.now) map.old.held.tree.pairs
+ *   map.new.held.tree.pairs at.old at.new (status_of result)
+ */
+uint8_t rart32_load_sorted(rart32 *map, const rart32_pair *pairs, size_t pairs_len, size_t *at);
 
 /* Writes the statistics of a map; of an empty one, zeros.
  *

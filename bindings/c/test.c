@@ -115,6 +115,30 @@ static void test_batches(void) {
   rart32_free(&map);
 }
 
+static rart32_pair pair_of(const char *key, uint64_t value) {
+  rart32_pair pair = {.len = strlen(key), .value = value};
+  memcpy(pair.key, key, pair.len);
+  return pair;
+}
+
+static void test_loads(void) {
+  rart32 map = three_words();
+  size_t at = 77;
+  rart32_pair pair;
+  rart32_pair pairs[4] = {pair_of("ant", 1), pair_of("bee", 2), pair_of("bee", 3), pair_of("cow", 4)};
+  CHECK(rart32_load_sorted(&map, pairs, 4, &at) == RART_DONE && at == 77);
+  CHECK(rart32_len(&map) == 3);
+  CHECK(rart32_first(&map, &pair) && has_pair(&pair, "ant", 1));
+  CHECK(rart32_last(&map, &pair) && has_pair(&pair, "cow", 4));
+  pairs[3] = pair_of("asp", 5);
+  CHECK(rart32_load_sorted(&map, pairs, 4, &at) == RART_UNSORTED && at == 3);
+  pairs[1].len = 33;
+  CHECK(rart32_load_sorted(&map, pairs, 4, &at) == RART_KEY_TOO_LONG && at == 1);
+  CHECK(rart32_len(&map) == 3);
+  CHECK(rart32_load_sorted(&map, NULL, 0, &at) == RART_DONE && rart32_len(&map) == 0);
+  rart32_free(&map);
+}
+
 /* Many keys, so that each kind of node is made and freed. */
 static void test_many(void) {
   rart32 map = {0};
@@ -140,6 +164,7 @@ int main(void) {
   test_edits();
   test_look_ups();
   test_batches();
+  test_loads();
   test_many();
   puts("c: passed");
   return 0;

@@ -91,6 +91,20 @@ class RartMap(collections.abc.MutableMapping):
         self._call["clear"](self._at)
         self._edits += 1
 
+    def load_sorted(self, pairs):
+        """Replaces all pairs by `pairs`, whose keys must ascend; of equal keys the last pair stays."""
+        pairs = [(_bytes(key), value) for key, value in pairs]
+        buffer, at = (self._pair * len(pairs))(), ctypes.c_size_t()
+        for to, (key, value) in zip(buffer, pairs):
+            if not 0 <= value < 1 << 64:
+                raise OverflowError("a value is an integer below 2**64")
+            ctypes.memmove(to.key, key, min(len(key), self._width))
+            to.len, to.value = len(key), value
+        status = check(self._call["load_sorted"](self._at, buffer, len(pairs), at), self._width)
+        if status == _sys.UNSORTED:
+            raise ValueError(f"the key of pair {at.value} is below the one before it")
+        self._edits += 1
+
     def remove_prefix(self, prefix):
         """Removes all pairs whose key begins with `prefix`, and returns their number."""
         prefix, removed = _bytes(prefix), ctypes.c_size_t()
@@ -189,4 +203,5 @@ _NAMES = [
     "range",
     "range_descending",
     "matches",
+    "load_sorted",
 ]

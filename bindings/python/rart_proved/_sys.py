@@ -16,6 +16,7 @@ NO_MEMORY = 2
 FULL = 3
 KEY_TOO_LONG = 4
 BAD_BOUND = 5
+UNSORTED = 6
 
 
 class RartStats(ctypes.Structure):
@@ -167,6 +168,16 @@ CALLS = [
             ctypes.c_size_t,
             ctypes.POINTER(ctypes.c_size_t),
             ctypes.POINTER(ctypes.c_bool),
+        ],
+    ),
+    (
+        "rart32_load_sorted",
+        ctypes.c_uint8,
+        [
+            ctypes.POINTER(Rart32),
+            ctypes.POINTER(Rart32Pair),
+            ctypes.c_size_t,
+            ctypes.POINTER(ctypes.c_size_t),
         ],
     ),
     ("rart32_stats", ctypes.c_uint8, [ctypes.POINTER(Rart32), ctypes.POINTER(RartStats)]),

@@ -1,4 +1,4 @@
-//! Why an edit failed.
+//! Why an edit or a load failed.
 
 use std::fmt;
 
@@ -25,6 +25,49 @@ impl fmt::Display for Error {
 }
 
 impl std::error::Error for Error {}
+
+/// Why a load of sorted pairs made no map.
+#[derive(Clone, Copy, Debug, PartialEq, Eq, Hash)]
+#[non_exhaustive]
+pub enum LoadError {
+    /// An allocation failed.
+    Memory,
+    /// There are more pairs than a map can count.
+    Full,
+    /// A key has more bytes than the map's keys have.
+    KeyTooLong {
+        /// The place of the first such pair.
+        at: usize,
+    },
+    /// A key is below the one before it.
+    Unsorted {
+        /// The place of the first such pair.
+        at: usize,
+    },
+}
+
+impl fmt::Display for LoadError {
+    fn fmt(&self, f: &mut fmt::Formatter<'_>) -> fmt::Result {
+        match self {
+            LoadError::Memory => Error::Memory.fmt(f),
+            LoadError::Full => Error::Full.fmt(f),
+            LoadError::KeyTooLong { at } => write!(f, "the key of pair {at} is too long"),
+            LoadError::Unsorted { at } => write!(f, "the key of pair {at} is below the one before it"),
+        }
+    }
+}
+
+impl std::error::Error for LoadError {}
+
+/// Returns the error of a load with a status that is none of success, at a place.
+pub(crate) fn load_error_of(status: u8, at: usize) -> LoadError {
+    match status {
+        crate::sys::KEY_TOO_LONG => LoadError::KeyTooLong { at },
+        crate::sys::UNSORTED => LoadError::Unsorted { at },
+        _ if error_of(status) == Error::Memory => LoadError::Memory,
+        _ => LoadError::Full,
+    }
+}
 
 /// Returns the error of a status that is none of success.
 pub(crate) fn error_of(status: u8) -> Error {

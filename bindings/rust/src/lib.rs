@@ -37,7 +37,7 @@ mod u64_map;
 mod width;
 
 pub use entry::{Entry, OccupiedEntry, VacantEntry};
-pub use error::Error;
+pub use error::{Error, LoadError};
 pub use iter::Iter;
 pub use key::Key;
 pub use map::Map;

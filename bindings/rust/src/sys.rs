@@ -39,6 +39,9 @@ pub const KEY_TOO_LONG: u8 = 4;
 /// A bound is none of unbounded, included and excluded. Nothing has changed.
 pub const BAD_BOUND: u8 = 5;
 
+/// A key is below the one before it. Nothing has changed.
+pub const UNSORTED: u8 = 6;
+
 /// The nodes of a map, counted.
 #[repr(C)]
 #[derive(Clone, Copy)]
@@ -176,6 +179,15 @@ unsafe extern "C" {
         out_len: usize,
         written: *mut usize,
         more: *mut bool,
+    ) -> u8;
+
+    /// Replaces all pairs of a map by those of a buffer, whose keys must ascend; of equal keys the last pair stays. Writes the
+    /// place of the first pair that is refused, if its key is too long or below the one before it, to `at`.
+    pub fn rart32_load_sorted(
+        map: *mut Rart32,
+        pairs: *const Rart32Pair,
+        pairs_len: usize,
+        at: *mut usize,
     ) -> u8;
 
     /// Writes the statistics of a map; of an empty one, zeros.

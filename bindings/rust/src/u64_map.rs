@@ -1,7 +1,7 @@
 //! Maps whose values are `u64`.
 
 use crate::bounds::{End, prefix_bounds};
-use crate::error::{Error, error_of};
+use crate::error::{Error, LoadError, error_of, load_error_of};
 use crate::iter::Iter;
 use crate::key::Key;
 use crate::sys;
@@ -53,6 +53,31 @@ impl<W: Width> U64Map<W> {
     /// Creates an empty map. Allocates nothing.
     pub const fn new() -> U64Map<W> {
         U64Map { handle: UnsafeCell::new(W::EMPTY) }
+    }
+
+    /// Makes the map of pairs whose keys ascend; of equal keys the last pair stays. Each node is made once, so this takes
+    /// less time than insertions.
+    ///
+    /// ```
+    /// use rart_proved::{LoadError, U64Map};
+    ///
+    /// let map: U64Map = U64Map::from_sorted([("a", 1), ("b", 2)]).unwrap();
+    /// assert_eq!(map.len(), 2);
+    /// let refused = U64Map::<rart_proved::W32>::from_sorted([("b", 1), ("a", 2)]);
+    /// assert_eq!(refused, Err(LoadError::Unsorted { at: 1 }));
+    /// ```
+    ///
+    /// # Errors
+    ///
+    /// If a key is too long or below the one before it, or an allocation fails.
+    pub fn from_sorted<K: AsRef<[u8]>>(pairs: impl IntoIterator<Item = (K, u64)>) -> Result<U64Map<W>, LoadError> {
+        let pairs: Vec<W::Pair> = pairs.into_iter().map(|(key, value)| W::pair(key.as_ref(), value)).collect();
+        let mut map = U64Map::new();
+        let mut at = 0;
+        match unsafe { W::load_sorted(map.handle.get_mut(), &pairs, &mut at) } {
+            sys::DONE => Ok(map),
+            status => Err(load_error_of(status, at)),
+        }
     }
 
     /// Returns the number of pairs.
@@ -325,7 +350,7 @@ impl<W: Width> Drop for U64Map<W> {
 
 impl<W: Width> Clone for U64Map<W> {
     fn clone(&self) -> U64Map<W> {
-        self.iter().collect()
+        U64Map::from_sorted(self).unwrap_or_else(|error| panic!("{error}"))
     }
 }
 

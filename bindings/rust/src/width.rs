@@ -35,6 +35,9 @@ pub(crate) mod sealed {
 
         fn parts(pair: &Self::Pair) -> (&[u8], u64);
 
+        /// Makes a pair. A key that is too long keeps its length, which the library refuses.
+        fn pair(key: &[u8], value: u64) -> Self::Pair;
+
         unsafe fn insert(map: *mut Self::Handle, key: Bytes, value: u64, old: &mut u64) -> u8;
         unsafe fn try_insert(map: *mut Self::Handle, key: Bytes, value: u64, stored: &mut u64) -> u8;
         unsafe fn remove(map: *mut Self::Handle, key: Bytes, old: &mut u64) -> u8;
@@ -70,6 +73,7 @@ pub(crate) mod sealed {
             written: &mut usize,
             more: &mut bool,
         ) -> u8;
+        unsafe fn load_sorted(map: *mut Self::Handle, pairs: &[Self::Pair], at: &mut usize) -> u8;
         unsafe fn stats(map: *mut Self::Handle, stats: &mut crate::sys::RartStats) -> u8;
     }
 }
@@ -78,7 +82,7 @@ macro_rules! width {
     ($width:ident, $max:literal, $handle:ident, $pair:ident, $insert:ident, $try_insert:ident, $remove:ident,
      $remove_prefix:ident, $clear:ident, $free:ident, $get:ident, $longest_prefix:ident, $len:ident,
      $intersect_count:ident, $first:ident, $last:ident, $range:ident, $range_descending:ident, $matches:ident,
-     $stats:ident) => {
+     $load_sorted:ident, $stats:ident) => {
         impl Width for $width {
             const MAX_KEY: usize = $max;
         }
@@ -93,6 +97,13 @@ macro_rules! width {
 
             fn parts(pair: &sys::$pair) -> (&[u8], u64) {
                 (&pair.key[..pair.len], pair.value)
+            }
+
+            fn pair(key: &[u8], value: u64) -> sys::$pair {
+                let mut inline = [0; $max];
+                let kept = key.len().min($max);
+                inline[..kept].copy_from_slice(&key[..kept]);
+                sys::$pair { key: inline, len: key.len(), value }
             }
 
             unsafe fn insert(map: *mut sys::$handle, key: Bytes, value: u64, old: &mut u64) -> u8 {
@@ -179,6 +190,10 @@ macro_rules! width {
                 unsafe { sys::$matches(map, probe.0, probe.1, out.0, out.1, written, more) }
             }
 
+            unsafe fn load_sorted(map: *mut sys::$handle, pairs: &[sys::$pair], at: &mut usize) -> u8 {
+                unsafe { sys::$load_sorted(map, pairs.as_ptr(), pairs.len(), at) }
+            }
+
             unsafe fn stats(map: *mut sys::$handle, stats: &mut sys::RartStats) -> u8 {
                 unsafe { sys::$stats(map, stats) }
             }
@@ -189,5 +204,5 @@ macro_rules! width {
 width!(
     W32, 32, Rart32, Rart32Pair, rart32_insert, rart32_try_insert, rart32_remove, rart32_remove_prefix, rart32_clear,
     rart32_free, rart32_get, rart32_longest_prefix, rart32_len, rart32_intersect_count, rart32_first, rart32_last,
-    rart32_range, rart32_range_descending, rart32_matches, rart32_stats
+    rart32_range, rart32_range_descending, rart32_matches, rart32_load_sorted, rart32_stats
 );

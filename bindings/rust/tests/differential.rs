@@ -1,6 +1,6 @@
 //! Random calls beside std's `BTreeMap`. `RART_CALLS` is their number: a million without it in release, else 100,000.
 
-use rart_proved::{Error, Map, U64Map};
+use rart_proved::{Error, LoadError, Map, U64Map};
 use std::cell::Cell;
 use std::collections::BTreeMap;
 use std::ops::Bound;
@@ -138,12 +138,21 @@ fn play(seed: u64, calls: usize) -> usize {
             98 if random.below(400) == 0 => {
                 assert!(map.iter().map(|(key, value)| (key.to_vec(), value)).eq(model.clone()));
                 assert_eq!(map.clone(), map);
+                let mut pairs: Pairs = model.clone().into_iter().collect();
+                if pairs.len() > 1 {
+                    let at = random.below(pairs.len() as u64 - 1) as usize;
+                    pairs.swap(at, at + 1);
+                    let refused = U64Map::<rart_proved::W32>::from_sorted(pairs);
+                    assert_eq!(refused, Err(LoadError::Unsorted { at: at + 1 }));
+                }
                 map.clear();
                 model.clear();
             }
             _ => {
                 let long = vec![b'a'; 33 + random.below(9) as usize];
                 assert_eq!(map.try_insert(&long, 1), Err(Error::KeyTooLong));
+                let refused = U64Map::<rart_proved::W32>::from_sorted([(&[][..], 1), (&long[..], 2)]);
+                assert_eq!(refused, Err(LoadError::KeyTooLong { at: 1 }));
                 assert_eq!(map.get(&long), None);
                 assert_eq!(map.remove(&long), None);
             }

@@ -6,6 +6,8 @@ use Rattle.std.proofs.Math.Nat.{min-eq_left, min-eq_right}
 use Rattle.std.proofs.lemmas.Bool.{le-ltb, lt-ltb}
 use Rattle.std.proofs.lemmas.List.{drop-drop, drop-set-lt, length-append, length-map, length-set, map-append, take_all}
 use Rattle.std.proofs.lemmas.List.{take_more_set}
+use Rattle.std.proofs.iter.Yields.{listed}
+use Rattle.std.specs.Iterator.{AlwaysYields, YieldsFirstBy}
 use Rattle.std.specs.Prelude.{drop, take}
 use Rattle.rart_c.specs.Batches.{IsBatch}
 
@@ -81,3 +83,7 @@ pub batch-of : {P A : Type 0} {read : P → A} {all all' : List A} {old new : Li
     → IsBatch read all old new written more → IsBatch read all' old new written more
 batch-of {P} {A} {read} {all} {all'} {old} {new} {written} {more} same =
     subst (λ (es : List A). IsBatch read es old new written more) same
+
+-- an iterator whose state shows what is left yields that
+pub shows : {S A B : Type 0} (v : A → B) (rest : S → List B) (s : S) → AlwaysYields (YieldsFirstBy v rest) v s (rest s)
+shows v rest s = listed (YieldsFirstBy v rest) v rest (λ s t h. ap length h.0) (λ s x t h. h) s

@@ -1,3 +1,5 @@
 pub mod Batches
 pub mod Handles32
+pub mod Loads
 pub mod ParkedBoxes
+pub mod Removals

@@ -15,6 +15,7 @@ pub data Status : Type 0 where
   Full : Status
   KeyTooLong : Status
   BadBound : Status
+  Unsorted : Status
   Unused : Status
 
 abbrev pub status_of : ℕ → Status
@@ -24,7 +25,8 @@ status_of (suc (suc zero)) = NoMemory
 status_of (suc (suc (suc zero))) = Full
 status_of (suc (suc (suc (suc zero)))) = KeyTooLong
 status_of (suc (suc (suc (suc (suc zero))))) = BadBound
-status_of (suc (suc (suc (suc (suc (suc _)))))) = Unused
+status_of (suc (suc (suc (suc (suc (suc zero)))))) = Unsorted
+status_of (suc (suc (suc (suc (suc (suc (suc _))))))) = Unused
 
 -- nothing has changed: neither the pairs nor the caller's variable
 abbrev pub IsUnchanged : {A : Type 0} → List (List ℕ × ℕ) → List (List ℕ × ℕ) → A → A → Type 0

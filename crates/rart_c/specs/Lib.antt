@@ -3,6 +3,7 @@ pub mod Batches
 pub mod Bounds
 pub mod Handles32
 pub mod Heap
+pub mod Loads
 pub mod Owned32
 pub mod Pairs32
 pub mod Parked

@@ -7,6 +7,7 @@ mod edits;
 mod ends;
 mod handle;
 mod keys;
+mod loads;
 mod look_ups;
 mod pairs;
 mod stats;

@@ -23,3 +23,6 @@ pub(crate) const KEY_TOO_LONG: u8 = 4;
 
 /// A bound is none of unbounded, included and excluded. Nothing has changed.
 pub(crate) const BAD_BOUND: u8 = 5;
+
+/// A key is below the one before it. Nothing has changed.
+pub(crate) const UNSORTED: u8 = 6;
