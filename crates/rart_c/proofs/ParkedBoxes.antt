@@ -16,7 +16,7 @@ use denote.Memory.{lone}
 use denote.RawPtr.{Ptr, block_ptr, null_ptr, ptr_val, Testable}
 use denote.Steps.{nothing}
 use denote.Exit.{no}
-use denote.Param.{param, arg, layout}
+use denote.Param.{arg, layout}
 use denote.Param.Laws.{Laws, arg_laws}
 use denote.Struct.Struct.{within}
 use denote.Struct.Owning.{shape}

@@ -1,5 +1,5 @@
 -- The removal of a key that is not stored.
-use Rattle.std.proofs.Common.{◌≡◌, List, [], ◌∷◌, Bool, true, false, Option, None, Some, not, refl, ap, ℕ}
+use Rattle.std.proofs.Common.{◌≡◌, List, [], ◌∷◌, Bool, true, false, None, Some, not, refl, ap, ℕ}
 use Rattle.std.specs.Prelude.{if◌then◌else◌}
 use Rattle.rart_keys.specs.ByteStrings.{bytes_eq}
 use Rattle.rart_keys.specs.SortedMap.{lookup, without}

@@ -1,6 +1,6 @@
 -- What the calls on one key return and write, and the pairs afterwards. `was` is what the caller's variable held, `is`
 -- what it holds.
-use Rattle.std.specs.Prelude.{◌≡◌, ◌≢◌, ◌<◌, ◌≤◌, ℕ, zero, suc, Bool, true, false, List, [], length, take, Option, None}
+use Rattle.std.specs.Prelude.{◌≡◌, ◌≢◌, ◌<◌, ◌≤◌, ℕ, zero, suc, Bool, true, false, List, length, take, Option, None}
 use Rattle.std.specs.Prelude.{Some}
 use Rattle.rart_keys.specs.Filters.{below, longest_match}
 use Rattle.rart_keys.specs.SortedMap.{lookup, put, without}

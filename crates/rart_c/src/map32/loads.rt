@@ -40,10 +40,7 @@ fn key_in(pair: &Rart32Pair) -> ArrayKey<32>
 }
 
 /// Returns the keys and values of pairs, none of whose keys is too long.
-fn read_pairs(
-    alloc: Global,
-    pairs: &[Rart32Pair],
-) -> Result<Vec<(ArrayKey<32>, u64)>, AllocError>
+fn read_pairs(alloc: Global, pairs: &[Rart32Pair]) -> Result<Vec<(ArrayKey<32>, u64)>, AllocError>
     requires { AreWithin 32 (lens_read pairs.now) }
     ensures { IfOk result (λ items. pairs_in array_key_bytes items.items ≡ pairs_read pairs.now) }
 {

@@ -12,8 +12,8 @@ returns-in-Ok-None c =
     let key_is = c.in-Some.ensures.fits.0 in
     let tree_is = ap (λ m. m.tree.pairs) (c.deref_mut.ensures.value ∙ c.in-Some-take.ensures.takes) in
     let absent : lookup key pairs ≡ None =
-        sym (removes.0 ∙ ap (λ k. lookup k c.deref_mut.result.now.tree.pairs) key_is ∙ ap (lookup key) tree_is) ∙ none in
+    sym (removes.0 ∙ ap (λ k. lookup k c.deref_mut.result.now.tree.pairs) key_is ∙ ap (lookup key) tree_is) ∙ none in
     let left : c.give.new.map.held.tree.pairs ≡ without key pairs =
-        ap (λ m. m.tree.pairs) c.give.ensures ∙ removes.1
-        ∙ ap (λ k. without k c.deref_mut.result.now.tree.pairs) key_is ∙ ap (without key) tree_is in
+    ap (λ m. m.tree.pairs) c.give.ensures ∙ removes.1
+    ∙ ap (λ k. without k c.deref_mut.result.now.tree.pairs) key_is ∙ ap (without key) tree_is in
     (c.in-Some.ensures.fits.1, absent, (left ∙ without-absent key pairs absent, refl))

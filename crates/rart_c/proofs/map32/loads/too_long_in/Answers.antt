@@ -1,4 +1,4 @@
-use Rattle.std.proofs.Common.{rules, arith, map, length, ◌∙◌}
+use Rattle.std.proofs.Common.{rules, map, ◌∙◌}
 use Rattle.std.proofs.lemmas.List.{length-map}
 use Rattle.rart_c.proofs.Loads.{ended-within}
 use Rattle.rart_c.proofs.map32.loads.too_long_in.Goals as goal

@@ -1,4 +1,4 @@
-use Rattle.std.proofs.Common.{rules, ◌≡◌, ◌∙◌, ℕ, Bool, List, Bor, arith, refl, subst, sym}
+use Rattle.std.proofs.Common.{rules, ◌∙◌, ℕ, Bool, List, Bor, arith, refl, subst, sym}
 use Rattle.std.proofs.lemmas.Iterator.Consumers.{YieldsList-end, YieldsList-so_far, YieldsList-turn}
 use Rattle.rart_keys.specs.declared.keys.array_key.ArrayKey.{ArrayKey}
 use Rattle.rart_keys.specs.ArrayKeyBytes.{array_key_bytes}

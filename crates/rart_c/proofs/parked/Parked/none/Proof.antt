@@ -1,5 +1,5 @@
 -- `none` makes a null pointer, which owns nothing.
-use Rattle.std.proofs.Common.{◌≡◌, List, [], ◌∷◌, refl}
+use Rattle.std.proofs.Common.{◌≡◌, [], ◌∷◌, refl}
 use Rattle.std.specs.Prelude.{Option, None}
 use mir.Syntax.{a_type}
 use mir.Val.{Val}

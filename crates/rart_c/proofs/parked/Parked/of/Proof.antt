@@ -1,7 +1,7 @@
 -- `of` lets `into_raw` give the box up, and keeps the pointer. The heap has no lifetime of its own: the call gets the
 -- empty one for it.
 use Rattle.std.proofs.Common.{◌≡◌, List, [], ◌∷◌, ◌++◌, refl, sym, ap, ◌∙◌, subst}
-use Rattle.std.specs.Prelude.{Option, Some}
+use Rattle.std.specs.Prelude.{Some}
 use mir.Syntax.{a_type, dcons, dnil}
 use mir.Raw.{raw as bare}
 use mir.Val.{Val}
@@ -12,7 +12,7 @@ use base.Fml.{Fml, ftrue, flft}
 use prog.Wp.{WpFn}
 use types.Logic.{sem}
 use types.Kit.{‵, raw, ◌⊛◌, some, later, ◌$◌, ◌∵◌, !, qed, by, move, keep, drop, split, split3, join, fsplit, fjoin}
-use types.Kit.{pick, suffices, use0, use1, await, feq_l, done}
+use types.Kit.{pick, suffices, use0, use1, await, feq_l}
 use types.Run.{of_opd, no_more, and_then, returns, enter}
 use types.ByLocal.{alloc_all, pass_all, free_all, look_at, get, sets, lands_as}
 use types.Part.{agg}
@@ -62,14 +62,14 @@ of_spec {M} 𝓤 𝓛 𝓜 𝓡 wired T L drops glue =
     let hs : Stays En.signature.params En.kept = (stay_dropped (plain (λ _. Boxed R)) no, tt) in
     let Ek = callee.ended T Heap ghosts dict no_drop drops in
     let k = triple_of 𝓛 (callee.signature T Heap ghosts dict no_drop drops)
-        (callee.spec T Heap ghosts dict no_drop drops 𝓛 𝓜.mem 𝓡.returns) in
+    (callee.spec T Heap ghosts dict no_drop drops 𝓛 𝓜.mem 𝓡.returns) in
     let allocates = passed γ (code.calls-std_heap::GlobalAllocator::allocate γ wired)
-        (code.calls-std_heap::GlobalAllocator::deallocate γ wired) (code.calls-std_heap::GlobalAllocator::grow γ wired)
-        (code.calls-std_heap::GlobalAllocator::shrink γ wired) M 𝓤 𝓛 𝓜 𝓡 in
+    (code.calls-std_heap::GlobalAllocator::deallocate γ wired) (code.calls-std_heap::GlobalAllocator::grow γ wired)
+    (code.calls-std_heap::GlobalAllocator::shrink γ wired) M 𝓤 𝓛 𝓜 𝓡 in
     let undropped = NoDrop.glues "rart_c::Destruct++none::drop" γ (code.calls-rart_c::Destruct++none::drop γ wired) Heap heap_laws
-        M 𝓤 𝓛 𝓜 𝓡 in
+    M 𝓤 𝓛 𝓜 𝓡 in
     let into_raw = met 𝓤 𝓛 𝓜 𝓡 (code.calls-std_alloc::boxed::Box::into_raw γ wired) T Heap L heap_laws ghosts dict no_drop
-        drops allocates undropped glue in
+    drops allocates undropped glue in
     proved_at 𝓛 En hs c 𝓜 𝓡 (Goes-blank 𝓛 1 (plain (λ _. Boxed R)) no (λ κs x f. tt), tt) (#self key) fn
     (code.unfolded 𝓤 𝓛.H 𝓜 𝓡 wired (T, tt) drops) (λ z are.
     let κ = z.0.0.0 in let q = z.0.1.0 in

@@ -1,6 +1,6 @@
 -- `take_out` tests the pointer, and lets `from_raw` make the box at one that isn't null.
 use Rattle.std.proofs.Common.{◌≡◌, List, [], ◌∷◌, ◌++◌, refl, sym, ap, ◌∙◌, subst, lit<}
-use Rattle.std.specs.Prelude.{Option, None, Some}
+use Rattle.std.specs.Prelude.{None, Some}
 use mir.Syntax.{a_type}
 use mir.Val.{Val, vptr, vcons, vnil}
 use mir.MapTy.{inst_fn}
@@ -35,7 +35,7 @@ use Rattle.core.proofs.atomic.Steps.{Ptr-Good, fm}
 use Rattle.core.proofs.cell.Inside.{Good}
 use Rattle.core.proofs.option.Made.{Some-of, none_of}
 use Rattle.std_alloc.proofs.ResultValues.{and_tt}
-use Rattle.std_alloc.proofs.BoxSteps.Form.{D, B, word, box_typed}
+use Rattle.std_alloc.proofs.BoxSteps.Form.{D, B, box_typed}
 use Rattle.std_alloc.proofs.BoxSteps.Steps.{box_out, box_in}
 use Rattle.std.proofs.raw_atomic.Walks.{proved_at, leaves}
 use Rattle.std_heap.specs.contracts.Global.{the_row as heap_row}
@@ -44,7 +44,6 @@ use Rattle.std_heap.proofs.GlobalAllocator.TheImpl.Met.{passed}
 use Rattle.std_alloc.specs.contracts.boxed.Box.from_raw as callee
 use Rattle.std_alloc.proofs.boxed.Box.from_raw.Met.{met}
 use Rattle.rart_c.proofs.ParkedBoxes.{Heap, heap_laws, heaps, no_drop, boxes, Boxed, Parked, stored_as, stored_well, by_pointer, parked_out}
-use Rattle.rart_c.specs.Parked.{IsTakenOut}
 use Rattle.rart_c.specs.contracts.parked.Parked.take_out.{ended, clauses}
 use Rattle.rart_c.specs.contracts.parked.Parked.take_out.Key.{name as #self}
 use Rattle.rart_c.proofs.parked.Parked.take_out.Statement.{statement}
@@ -62,20 +61,21 @@ take_out_spec {M} 𝓤 𝓛 𝓜 𝓡 wired T L =
     let En = ended T in
     let c = clauses T 𝓛 𝓜.mem 𝓡.returns in
     let hs : Stays En.signature.params En.kept =
-        (stay_dropped (plain (λ _. Parked R)) no, (stay_dropped (plain (λ _. heap_row)) yes, tt)) in
+    (stay_dropped (plain (λ _. Parked R)) no, (stay_dropped (plain (λ _. heap_row)) yes, tt)) in
     let Ek = callee.ended T Heap ghosts dict no_drop in
     let k = triple_of 𝓛 (callee.signature T Heap ghosts dict no_drop)
-        (callee.spec T Heap ghosts dict no_drop 𝓛 𝓜.mem 𝓡.returns) in
+    (callee.spec T Heap ghosts dict no_drop 𝓛 𝓜.mem 𝓡.returns) in
     let allocates = passed γ (code.calls-std_heap::GlobalAllocator::allocate γ wired)
-        (code.calls-std_heap::GlobalAllocator::deallocate γ wired) (code.calls-std_heap::GlobalAllocator::grow γ wired)
-        (code.calls-std_heap::GlobalAllocator::shrink γ wired) M 𝓤 𝓛 𝓜 𝓡 in
+    (code.calls-std_heap::GlobalAllocator::deallocate γ wired) (code.calls-std_heap::GlobalAllocator::grow γ wired)
+    (code.calls-std_heap::GlobalAllocator::shrink γ wired) M 𝓤 𝓛 𝓜 𝓡 in
     let undropped = NoDrop.glues "rart_c::Destruct++none::drop" γ (code.calls-rart_c::Destruct++none::drop γ wired) Heap heap_laws
-        M 𝓤 𝓛 𝓜 𝓡 in
+    M 𝓤 𝓛 𝓜 𝓡 in
     let from_raw = met 𝓤 𝓛 𝓜 𝓡 (code.calls-std_alloc::boxed::Box::from_raw γ wired) T Heap L heap_laws ghosts dict no_drop
-        allocates undropped in
-    proved_at 𝓛 En hs c 𝓜 𝓡
-    (Goes-blank 𝓛 1 (plain (λ _. Parked R)) no (λ κs x f. tt),
-    (Goes-dropped 𝓛 1 (plain (λ _. heap_row)) yes (λ κs x w. refl), tt)) (#self key) fn
+    allocates undropped in
+    proved_at 𝓛 En hs c 𝓜 𝓡 (
+      Goes-blank 𝓛 1 (plain (λ _. Parked R)) no (λ κs x f. tt),
+      (Goes-dropped 𝓛 1 (plain (λ _. heap_row)) yes (λ κs x w. refl), tt),
+    ) (#self key) fn
     (code.unfolded 𝓤 𝓛.H 𝓜 𝓡 wired (T, tt)) (λ z are.
     let κ = z.0.0.0 in let q = z.0.1.0 in
     let self = z.0.3.0 in let alloc = z.0.3.1.0 in
@@ -89,10 +89,10 @@ take_out_spec {M} 𝓤 𝓛 𝓜 𝓡 wired T L =
     move ! (2 ∷ []) $ parked_out R ! self z.0.4.0 (λ first_is.
     -- [what is parked; the heap; nothing; the lifetimes; the clauses]
     let starts : (p : Ptr) → self.at ≡ p → ent 𝓤 (Run (stored_as p ∷ h ∷ [])) (Run (z.0.4.0 ++ (z.0.4.1.0 ++ []))) =
-        λ p at_is.
-        let told : z.0.4.0 ≡ stored_as p ∷ [] = first_is ∙ ap (λ (a : Ptr). stored_as a ∷ []) at_is in
-        subst (λ (vs : List Val). ent 𝓤 (Run (stored_as p ∷ h ∷ [])) (Run vs))
-        (sym (λ i. told i ++ (second_is i ++ []))) (id⊢ 𝓤 (Run (stored_as p ∷ h ∷ []))) in
+    λ p at_is.
+    let told : z.0.4.0 ≡ stored_as p ∷ [] = first_is ∙ ap (λ (a : Ptr). stored_as a ∷ []) at_is in
+    subst (λ (vs : List Val). ent 𝓤 (Run (stored_as p ∷ h ∷ [])) (Run vs))
+    (sym (λ i. told i ++ (second_is i ++ []))) (id⊢ 𝓤 (Run (stored_as p ∷ h ∷ []))) in
     by_pointer R ! self.at self.value
     (λ at_is is_none.
     let answer : Val = live 0 vnil in
@@ -113,7 +113,7 @@ take_out_spec {M} 𝓤 𝓛 𝓜 𝓡 wired T L =
     (λ b o x at_is is_some tested.
     let p = block_ptr b o in
     let y : k.Ghost =
-        (((κ, ([], tt)), (q, (full_share, tt)), tt, (alloc, (p, tt)), (h ∷ [], (vptr b o ∷ [], tt))), x) in
+    (((κ, ([], tt)), (q, (full_share, tt)), tt, (alloc, (p, tt)), (h ∷ [], (vptr b o ∷ [], tt))), x) in
     let lives = κ ⊑ T.lives in let heap_lives = [] ⊑ Heap.lives in
     -- [the box's memory; the heap; nothing; the lifetimes; the clauses]: the call's clauses, lifetimes and arguments
     move ! (4 ∷ []) $ use1 𝓛 (raw (fact 𝓤 lives) ⊛ ‵ ftrue) (id⊢ 𝓤 _) $ split ! $ move ! (1 ∷ []) $ drop ! $

@@ -4,7 +4,7 @@ use mir.Val.{Val}
 use base.Logic.{SProp, ent, emp, id⊢}
 use base.Fml.{ftrue}
 use prog.Wp.{WpFn}
-use types.Kit.{‵, raw, ◌⊛◌, ◌$◌, ◌∵◌, !, qed, by, keep, move, drop, split, fsplit, fjoin, suffices, use0}
+use types.Kit.{‵, raw, ◌⊛◌, ◌$◌, ◌∵◌, !, qed, by, keep, move, split, fsplit, fjoin, suffices, use0}
 use types.Run.{stop, fld, of_opd, no_more, and_then, returns, enter}
 use types.ByLocal.{alloc_all, pass_all, free_all, look_at, get, get_in, sets}
 use types.Part.{agg, sub, whole}
@@ -19,7 +19,7 @@ use Rattle.core.proofs.atomic.Steps.{Ptr-Good}
 use Rattle.std.proofs.raw_atomic.Walks.{proved_at, leaves}
 use Rattle.rart_c.specs.contracts.map32.Map32.{the_row as Row}
 use Rattle.rart_c.specs.Handles32.{map_of}
-use Rattle.rart_c.proofs.ParkedBoxes.{Parked, stored_as, stored_well, parked_in}
+use Rattle.rart_c.proofs.ParkedBoxes.{stored_as, stored_well, parked_in}
 use Rattle.rart_c.proofs.Handles32.{Handle, handle_well, handle_out}
 use Rattle.rart_c.specs.contracts.map32.handle.Rart32.release.{ended, clauses}
 use Rattle.rart_c.specs.contracts.map32.handle.Rart32.release.Key.{name as #self}
