@@ -216,8 +216,8 @@ uint8_t rart32_matches(rart32 *map, const uint8_t *probe, size_t probe_len, rart
  *   the
  * place of the first pair that is refused, if its key is too long or below the one before it, to `at`.
  *
- * Proved: Loads 32 (map (λ p. p.len) pairs.now) (map pair_in pairs.now) map.old.held.tree.pairs
- *   map.new.held.tree.pairs at.old at.new (status_of result)
+ * Proved: Loads 32 (lens_read pairs.now) (pairs_read pairs.now) map.old.held.tree.pairs map.new.held.tree.pairs
+ *   at.old at.new (status_of result)
  */
 uint8_t rart32_load_sorted(rart32 *map, const rart32_pair *pairs, size_t pairs_len, size_t *at);
 

@@ -75,6 +75,16 @@ class Errors(unittest.TestCase):
         self.assertEqual(list(words.range(b"a" * 40)), [])
         self.assertEqual(list(words.range(None, b"a" * 40)), [(b"a", 1)])
 
+    def test_loads(self):
+        words = RartMap({b"x": 1})
+        with self.assertRaises(ValueError):
+            words.load_sorted([(b"b", 1), (b"a", 2)])
+        with self.assertRaises(ValueError):
+            words.load_sorted([(b"y" * 33, 1)])
+        self.assertEqual(dict(words), {b"x": 1})
+        words.load_sorted([(b"a", 1), (b"b", 2), (b"b", 3)])
+        self.assertEqual(list(words.items()), [(b"a", 1), (b"b", 3)])
+
     def test_values(self):
         with self.assertRaises(OverflowError):
             RartMap({b"x": 1 << 64})
