@@ -17,6 +17,8 @@
 
 _Static_assert(sizeof(rart32) == sizeof(void *), "a map is one pointer");
 _Static_assert(sizeof(rart32_pair) == 48, "a pair has no padding");
+_Static_assert(sizeof(rart128) == sizeof(void *), "a map is one pointer");
+_Static_assert(sizeof(rart128_pair) == 144, "a pair has no padding");
 
 static bool has_pair(const rart32_pair *pair, const char *key, uint64_t value) {
   return pair->len == strlen(key) && memcmp(pair->key, key, pair->len) == 0 && pair->value == value;
@@ -139,6 +141,40 @@ static void test_loads(void) {
   rart32_free(&map);
 }
 
+/* Each function of the wide maps once. */
+static void test_wide(void) {
+  rart128 map = {0}, other = {0};
+  uint8_t key[129];
+  uint64_t value = 77;
+  size_t number = 77;
+  bool more = true;
+  rart128_pair pair, loaded[2] = {{.key = "a", .len = 1, .value = 1}, {.key = "b", .len = 1, .value = 2}};
+  rart_stats stats;
+  memset(key, 'k', sizeof key);
+  CHECK(rart128_insert(&map, key, 129, 1, &value) == RART_KEY_TOO_LONG && value == 77);
+  CHECK(rart128_insert(&map, key, 128, 1, &value) == RART_DONE);
+  CHECK(rart128_try_insert(&map, key, 128, 2, &value) == RART_STORED && value == 1);
+  CHECK(rart128_get(&map, key, 128, &value) && value == 1 && !rart128_get(&map, key, 127, &value));
+  CHECK(rart128_longest_prefix(&map, key, 129, &number, &value) && number == 128);
+  CHECK(rart128_first(&map, &pair) && pair.len == 128 && pair.value == 1 && memcmp(pair.key, key, 128) == 0);
+  CHECK(rart128_last(&map, &pair) && pair.len == 128);
+  CHECK(rart128_range(&map, RART_INCLUDED, key, 1, RART_UNBOUNDED, NULL, 0, &pair, 1, &number, &more) == RART_DONE);
+  CHECK(number == 1 && !more);
+  CHECK(rart128_range_descending(&map, RART_UNBOUNDED, NULL, 0, RART_EXCLUDED, key, 1, &pair, 1, &number, &more) ==
+        RART_DONE);
+  CHECK(number == 0 && !more);
+  CHECK(rart128_matches(&map, key, 128, &pair, 1, &number, &more) == RART_DONE && number == 1 && !more);
+  CHECK(rart128_intersect_count(&map, &other) == 0);
+  CHECK(rart128_stats(&map, &stats) == RART_DONE && stats.leaves == 1);
+  CHECK(rart128_load_sorted(&other, loaded, 2, &number) == RART_DONE && rart128_len(&other) == 2);
+  CHECK(rart128_remove_prefix(&other, BYTES("a"), &number) == RART_DONE && number == 1);
+  CHECK(rart128_remove(&other, BYTES("b"), &value) == RART_DONE && value == 2);
+  rart128_clear(&map);
+  CHECK(rart128_len(&map) == 0);
+  rart128_free(&other);
+  rart128_free(&map);
+}
+
 /* Many keys, so that each kind of node is made and freed. */
 static void test_many(void) {
   rart32 map = {0};
@@ -165,6 +201,7 @@ int main(void) {
   test_look_ups();
   test_batches();
   test_loads();
+  test_wide();
   test_many();
   puts("c: passed");
   return 0;

@@ -12,7 +12,6 @@ _FIRST, _ROOM = 8, 64
 _WIDTHS = {
     width: (getattr(_sys, f"Rart{width}"), getattr(_sys, f"Rart{width}Pair"), f"rart{width}_")
     for width in (32, 128)
-    if hasattr(_sys, f"Rart{width}")
 }
 
 

@@ -57,6 +57,17 @@ class RandomCalls(unittest.TestCase):
         self.assertEqual(dict(self.map), kept)
 
 
+class WideRandomCalls(RandomCalls):
+    """The same of keys of at most 128 bytes."""
+
+    def setUp(self):
+        super().setUp()
+        self.map = RartMap(width=128)
+
+    def key(self):
+        return super().key() * self.random.choice([1, 1, 18])
+
+
 class Errors(unittest.TestCase):
     """What the map refuses."""
 

@@ -8,8 +8,9 @@ use std::fmt;
 use std::iter::FusedIterator;
 use std::mem::MaybeUninit;
 
-/// The pairs of the first batch. The next ones are larger, since a batch seeks its start anew.
-const FIRST: usize = 8;
+/// The pairs of the first batch: as many as a range of ten needs. The next ones are larger, since each batch seeks its
+/// start anew.
+const FIRST: usize = 16;
 
 /// The most pairs of a batch.
 const ROOM: usize = 32;

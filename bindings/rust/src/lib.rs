@@ -2,7 +2,7 @@
 //!
 //! [`Map`] has values of any type, [`U64Map`] has `u64`. Both have the names of std's [`BTreeMap`], and look-ups by
 //! prefix: [`longest_prefix`](Map::longest_prefix), [`matches`](Map::matches) and [`prefix`](Map::prefix). Keys have
-//! at most 32 bytes.
+//! at most 32 bytes, or 128 in a map of width [`W128`].
 //!
 //! What each call of the library beneath does is proved, for every input: the header `rart.h` quotes the contracts.
 //! This crate itself is tested.
@@ -43,4 +43,4 @@ pub use key::Key;
 pub use map::Map;
 pub use map_iter::{IntoIter, MapIter};
 pub use u64_map::{Stats, U64Map};
-pub use width::{W32, Width};
+pub use width::{W32, W128, Width};

@@ -4,7 +4,7 @@ use crate::sys;
 use std::ffi::c_void;
 use std::fmt::Debug;
 
-/// How many bytes a key has at most: [`W32`].
+/// How many bytes a key has at most: [`W32`] or [`W128`].
 pub trait Width: sealed::Calls {
     /// The most bytes of a key.
     const MAX_KEY: usize;
@@ -13,6 +13,10 @@ pub trait Width: sealed::Calls {
 /// Keys of at most 32 bytes. A pair takes about 145 bytes.
 #[derive(Clone, Copy, Debug)]
 pub enum W32 {}
+
+/// Keys of at most 128 bytes. A pair takes about BYTES128 bytes.
+#[derive(Clone, Copy, Debug)]
+pub enum W128 {}
 
 /// A slice as C takes it.
 pub(crate) type Bytes = (*const u8, usize);
@@ -205,4 +209,11 @@ width!(
     W32, 32, Rart32, Rart32Pair, rart32_insert, rart32_try_insert, rart32_remove, rart32_remove_prefix, rart32_clear,
     rart32_free, rart32_get, rart32_longest_prefix, rart32_len, rart32_intersect_count, rart32_first, rart32_last,
     rart32_range, rart32_range_descending, rart32_matches, rart32_load_sorted, rart32_stats
+);
+
+width!(
+    W128, 128, Rart128, Rart128Pair, rart128_insert, rart128_try_insert, rart128_remove, rart128_remove_prefix,
+    rart128_clear, rart128_free, rart128_get, rart128_longest_prefix, rart128_len, rart128_intersect_count,
+    rart128_first, rart128_last, rart128_range, rart128_range_descending, rart128_matches, rart128_load_sorted,
+    rart128_stats
 );

@@ -1,6 +1,6 @@
 //! Random calls beside std's `BTreeMap`. `RART_CALLS` is their number: a million without it in release, else 100,000.
 
-use rart_proved::{Error, LoadError, Map, U64Map};
+use rart_proved::{Error, LoadError, Map, U64Map, W32, W128, Width};
 use std::cell::Cell;
 use std::collections::BTreeMap;
 use std::ops::Bound;
@@ -33,8 +33,8 @@ impl Random {
         }
     }
 
-    fn bound(&mut self) -> Bound<Vec<u8>> {
-        let key = self.key(36);
+    fn bound(&mut self, longest: u64) -> Bound<Vec<u8>> {
+        let key = self.key(longest);
         match self.below(3) {
             0 => Bound::Unbounded,
             1 => Bound::Included(key),
@@ -59,13 +59,14 @@ fn is_within(key: &[u8], start: &Bound<Vec<u8>>, end: &Bound<Vec<u8>>) -> bool {
 type Pairs = Vec<(Vec<u8>, u64)>;
 
 /// Plays `calls` calls from a seed, and returns the most pairs that the map had.
-fn play(seed: u64, calls: usize) -> usize {
+fn play<W: Width>(seed: u64, calls: usize) -> usize {
+    let longest = W::MAX_KEY as u64;
     let mut random = Random(seed);
-    let mut map: U64Map = U64Map::new();
+    let mut map: U64Map<W> = U64Map::new();
     let mut model = BTreeMap::<Vec<u8>, u64>::new();
     let mut most = 0;
     for call in 0..calls {
-        let key = random.key(32);
+        let key = random.key(longest);
         match random.below(100) {
             0..40 => {
                 let value = random.next();
@@ -84,7 +85,7 @@ fn play(seed: u64, calls: usize) -> usize {
             }
             60..70 => assert_eq!(map.get(&key), model.get(&key).copied()),
             70..78 => {
-                let probe = random.key(40);
+                let probe = random.key(longest + 8);
                 let mut matches = (0..=probe.len()).filter_map(|len| Some((&probe[..len], *model.get(&probe[..len])?)));
                 if random.below(2) == 0 {
                     assert!(map.matches(&probe).eq(matches), "call {call}: {probe:?}");
@@ -101,7 +102,7 @@ fn play(seed: u64, calls: usize) -> usize {
                 assert_eq!(found, wanted, "call {call}: {prefix:?}");
             }
             86..93 => {
-                let (start, end) = (random.bound(), random.bound());
+                let (start, end) = (random.bound(longest + 4), random.bound(longest + 4));
                 let limit = random.below(90) as usize;
                 let bounds = (start.as_ref().map(|key| &key[..]), end.as_ref().map(|key| &key[..]));
                 let mut pairs = map.range::<[u8]>(bounds);
@@ -130,7 +131,7 @@ fn play(seed: u64, calls: usize) -> usize {
                 assert_eq!(map.remove_prefix(&key), Ok(before - model.len()));
             }
             97 => {
-                let other: U64Map = model.iter().filter(|_| random.below(9) == 0).map(|(key, value)| (key, *value)).collect();
+                let other: U64Map<W> = model.iter().filter(|_| random.below(9) == 0).map(|(key, value)| (key, *value)).collect();
                 if random.below(50) == 0 {
                     assert_eq!(map.intersect_count(&other), other.len());
                 }
@@ -142,16 +143,16 @@ fn play(seed: u64, calls: usize) -> usize {
                 if pairs.len() > 1 {
                     let at = random.below(pairs.len() as u64 - 1) as usize;
                     pairs.swap(at, at + 1);
-                    let refused = U64Map::<rart_proved::W32>::from_sorted(pairs);
+                    let refused = U64Map::<W>::from_sorted(pairs);
                     assert_eq!(refused, Err(LoadError::Unsorted { at: at + 1 }));
                 }
                 map.clear();
                 model.clear();
             }
             _ => {
-                let long = vec![b'a'; 33 + random.below(9) as usize];
+                let long = vec![b'a'; W::MAX_KEY + 1 + random.below(9) as usize];
                 assert_eq!(map.try_insert(&long, 1), Err(Error::KeyTooLong));
-                let refused = U64Map::<rart_proved::W32>::from_sorted([(&[][..], 1), (&long[..], 2)]);
+                let refused = U64Map::<W>::from_sorted([(&[][..], 1), (&long[..], 2)]);
                 assert_eq!(refused, Err(LoadError::KeyTooLong { at: 1 }));
                 assert_eq!(map.get(&long), None);
                 assert_eq!(map.remove(&long), None);
@@ -168,7 +169,9 @@ fn random_calls() {
     let default = if cfg!(debug_assertions) { 100_000 } else { 1_000_000 };
     let calls = std::env::var("RART_CALLS").map_or(default, |calls| calls.parse().expect("a number"));
     let rounds = 10;
-    let most = (0..rounds).map(|seed| play(seed, calls / rounds as usize)).max();
+    let calls_of_round = calls / rounds as usize;
+    let round = |seed| if seed % 2 == 0 { play::<W32>(seed, calls_of_round) } else { play::<W128>(seed, calls_of_round) };
+    let most = (0..rounds).map(round).max();
     println!("{calls} calls, at most {} pairs", most.unwrap_or(0));
 }
 
