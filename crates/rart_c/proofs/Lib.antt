@@ -1,4 +1,5 @@
 pub mod Batches
+pub mod Handles128
 pub mod Handles32
 pub mod Loads
 pub mod ParkedBoxes

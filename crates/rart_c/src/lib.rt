@@ -5,6 +5,7 @@
 #![tactic(auto)]
 
 mod bounds;
+mod map128;
 mod map32;
 mod parked;
 mod stats;
