@@ -52,6 +52,26 @@ class Rart32(ctypes.Structure):
     ]
 
 
+class Rart128Pair(ctypes.Structure):
+    """A pair: the first `len` bytes of `key` are the key. The others are zero where a call wrote the pair."""
+
+    _fields_ = [
+        ("key", ctypes.c_uint8 * 128),
+        ("len", ctypes.c_size_t),
+        ("value", ctypes.c_uint64),
+    ]
+
+
+class Rart128(ctypes.Structure):
+    """A map from keys of at most 128 bytes to `u64`. Zeroed, it is an empty map. A call takes it by its address and is the
+    only one that uses it; a copy of it must not be used once either is passed to a call.
+    """
+
+    _fields_ = [
+        ("at", ctypes.c_void_p),
+    ]
+
+
 # Each function: its name, its result and its arguments.
 CALLS = [
     (
@@ -181,4 +201,138 @@ CALLS = [
         ],
     ),
     ("rart32_stats", ctypes.c_uint8, [ctypes.POINTER(Rart32), ctypes.POINTER(RartStats)]),
+    (
+        "rart128_insert",
+        ctypes.c_uint8,
+        [
+            ctypes.POINTER(Rart128),
+            ctypes.c_char_p,
+            ctypes.c_size_t,
+            ctypes.c_uint64,
+            ctypes.POINTER(ctypes.c_uint64),
+        ],
+    ),
+    (
+        "rart128_try_insert",
+        ctypes.c_uint8,
+        [
+            ctypes.POINTER(Rart128),
+            ctypes.c_char_p,
+            ctypes.c_size_t,
+            ctypes.c_uint64,
+            ctypes.POINTER(ctypes.c_uint64),
+        ],
+    ),
+    (
+        "rart128_remove",
+        ctypes.c_uint8,
+        [
+            ctypes.POINTER(Rart128),
+            ctypes.c_char_p,
+            ctypes.c_size_t,
+            ctypes.POINTER(ctypes.c_uint64),
+        ],
+    ),
+    (
+        "rart128_remove_prefix",
+        ctypes.c_uint8,
+        [
+            ctypes.POINTER(Rart128),
+            ctypes.c_char_p,
+            ctypes.c_size_t,
+            ctypes.POINTER(ctypes.c_size_t),
+        ],
+    ),
+    ("rart128_clear", None, [ctypes.POINTER(Rart128)]),
+    ("rart128_free", None, [ctypes.POINTER(Rart128)]),
+    (
+        "rart128_get",
+        ctypes.c_bool,
+        [
+            ctypes.POINTER(Rart128),
+            ctypes.c_char_p,
+            ctypes.c_size_t,
+            ctypes.POINTER(ctypes.c_uint64),
+        ],
+    ),
+    (
+        "rart128_longest_prefix",
+        ctypes.c_bool,
+        [
+            ctypes.POINTER(Rart128),
+            ctypes.c_char_p,
+            ctypes.c_size_t,
+            ctypes.POINTER(ctypes.c_size_t),
+            ctypes.POINTER(ctypes.c_uint64),
+        ],
+    ),
+    ("rart128_len", ctypes.c_size_t, [ctypes.POINTER(Rart128)]),
+    (
+        "rart128_intersect_count",
+        ctypes.c_size_t,
+        [
+            ctypes.POINTER(Rart128),
+            ctypes.POINTER(Rart128),
+        ],
+    ),
+    ("rart128_first", ctypes.c_bool, [ctypes.POINTER(Rart128), ctypes.POINTER(Rart128Pair)]),
+    ("rart128_last", ctypes.c_bool, [ctypes.POINTER(Rart128), ctypes.POINTER(Rart128Pair)]),
+    (
+        "rart128_range",
+        ctypes.c_uint8,
+        [
+            ctypes.POINTER(Rart128),
+            ctypes.c_uint8,
+            ctypes.c_char_p,
+            ctypes.c_size_t,
+            ctypes.c_uint8,
+            ctypes.c_char_p,
+            ctypes.c_size_t,
+            ctypes.POINTER(Rart128Pair),
+            ctypes.c_size_t,
+            ctypes.POINTER(ctypes.c_size_t),
+            ctypes.POINTER(ctypes.c_bool),
+        ],
+    ),
+    (
+        "rart128_range_descending",
+        ctypes.c_uint8,
+        [
+            ctypes.POINTER(Rart128),
+            ctypes.c_uint8,
+            ctypes.c_char_p,
+            ctypes.c_size_t,
+            ctypes.c_uint8,
+            ctypes.c_char_p,
+            ctypes.c_size_t,
+            ctypes.POINTER(Rart128Pair),
+            ctypes.c_size_t,
+            ctypes.POINTER(ctypes.c_size_t),
+            ctypes.POINTER(ctypes.c_bool),
+        ],
+    ),
+    (
+        "rart128_matches",
+        ctypes.c_uint8,
+        [
+            ctypes.POINTER(Rart128),
+            ctypes.c_char_p,
+            ctypes.c_size_t,
+            ctypes.POINTER(Rart128Pair),
+            ctypes.c_size_t,
+            ctypes.POINTER(ctypes.c_size_t),
+            ctypes.POINTER(ctypes.c_bool),
+        ],
+    ),
+    (
+        "rart128_load_sorted",
+        ctypes.c_uint8,
+        [
+            ctypes.POINTER(Rart128),
+            ctypes.POINTER(Rart128Pair),
+            ctypes.c_size_t,
+            ctypes.POINTER(ctypes.c_size_t),
+        ],
+    ),
+    ("rart128_stats", ctypes.c_uint8, [ctypes.POINTER(Rart128), ctypes.POINTER(RartStats)]),
 ]

@@ -14,7 +14,7 @@ pub trait Width: sealed::Calls {
 #[derive(Clone, Copy, Debug)]
 pub enum W32 {}
 
-/// Keys of at most 128 bytes. A pair takes about BYTES128 bytes.
+/// Keys of at most 128 bytes. A pair takes about 351 bytes.
 #[derive(Clone, Copy, Debug)]
 pub enum W128 {}
 
