@@ -1,4 +1,5 @@
 //! Random calls beside std's `BTreeMap`. `RART_CALLS` is their number: a million without it in release, else 100,000.
+//! `RART_SEED` is the seed of the first of ten rounds: 0 without it.
 
 use rart_proved::{Error, LoadError, Map, U64Map, W32, W128, Width};
 use std::cell::Cell;
@@ -166,12 +167,13 @@ fn play<W: Width>(seed: u64, calls: usize) -> usize {
 
 #[test]
 fn random_calls() {
-    let default = if cfg!(debug_assertions) { 100_000 } else { 1_000_000 };
-    let calls = std::env::var("RART_CALLS").map_or(default, |calls| calls.parse().expect("a number"));
+    let number = |name, default| std::env::var(name).map_or(default, |number| number.parse().expect("a number"));
+    let calls = number("RART_CALLS", if cfg!(debug_assertions) { 100_000 } else { 1_000_000 });
+    let first = number("RART_SEED", 0) as u64;
     let rounds = 10;
     let calls_of_round = calls / rounds as usize;
     let round = |seed| if seed % 2 == 0 { play::<W32>(seed, calls_of_round) } else { play::<W128>(seed, calls_of_round) };
-    let most = (0..rounds).map(round).max();
+    let most = (first..first + rounds).map(round).max();
     println!("{calls} calls, at most {} pairs", most.unwrap_or(0));
 }
 
