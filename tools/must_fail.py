@@ -63,7 +63,7 @@ CYCLE = re.compile(r"cycle of calls|/\+")
 STALE = re.compile(r"Run the lower steps again|(?:went over|met) a limit of this run")
 
 # The first line of a function, and what declares more than a body does.
-HEAD = re.compile(r"^( *)(?:pub(?:\([^)]*\))? )?(?:(?:const|unsafe) )*fn (\w+)", re.M)
+HEAD = re.compile(r'^( *)(?:pub(?:\([^)]*\))? )?(?:(?:const|unsafe|extern "C") )*fn (\w+)', re.M)
 ITEM = re.compile(r"\b(?:fn|impl|trait|struct|enum|type|const|static|mod|use|macro_rules|ensures|requires)\b")
 
 # What `rt ci` prints of a crate that it proved, or that an earlier run proved of the same files.
@@ -152,7 +152,8 @@ class Libraries:
         self.kit = pathlib.Path(page).parent
         lines = (TOP / "crates.txt").read_text().splitlines()
         rows = (line.partition(":") for line in lines if line and not line.startswith("#"))
-        self.named = {name.strip(): below.split() for name, _, below in rows}
+        # a static library's line has a word after its name
+        self.named = {name.split()[0]: below.split() for name, _, below in rows}
 
     def lanes(self):
         """How many crates may be tried at once: as many after `rt ci` as processors and memory serve."""

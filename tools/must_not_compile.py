@@ -4,7 +4,8 @@
 usage: must_not_compile.py [PASSED FAILED]
 
 A row of BODIES replaces one text of one source file. The row passes if the compiler refuses the copy with the errors
-of the row and no others. The check stops there, before it proves anything.
+of the row and no others. The check stops there, before it proves anything. A row of MISUSES is a Rust program over the
+bindings that rustc refuses; without cargo these are skipped.
 
 PASSED and FAILED are the counts of the step before. The last line adds the rows to them.
 """
@@ -352,11 +353,83 @@ def fault(body):
     return f"the compiler has other errors: {errors}"
 
 
+class Misuse(typing.NamedTuple):
+    """What a Rust program over the bindings does wrong, its `main`, and the codes of the compiler's errors."""
+
+    does: str
+    main: str
+    errors: tuple
+
+
+MISUSES = [
+    Misuse(
+        "in Rust, an iterator is kept over an insertion",
+        """
+        let mut map: rart_proved::U64Map = [("a", 1)].into_iter().collect();
+        let pairs = map.iter();
+        map.insert("b", 2);
+        assert_eq!(pairs.count(), 2);
+        """,
+        ("E0502",),
+    ),
+    Misuse(
+        "in Rust, a value outlives its removal",
+        """
+        let mut map: rart_proved::Map<String> = rart_proved::Map::new();
+        map.insert("a", String::from("one"));
+        let value = map.get("a");
+        map.remove("a");
+        assert_eq!(value.map(String::as_str), Some("one"));
+        """,
+        ("E0502",),
+    ),
+    Misuse(
+        "in Rust, a map goes to another thread",
+        """
+        let map = rart_proved::U64Map::<rart_proved::W32>::new();
+        std::thread::spawn(move || map.len()).join().unwrap();
+        """,
+        ("E0277",),
+    ),
+]
+
+MANIFEST = """[package]
+name = "misuse"
+version = "0.1.0"
+edition = "2024"
+
+[dependencies]
+rart_proved = {{ path = "{}" }}
+"""
+
+
+def rust_fault(misuse):
+    """Returns why a misuse isn't refused as it must be."""
+    with tempfile.TemporaryDirectory() as name:
+        folder = pathlib.Path(name)
+        (folder / "src").mkdir()
+        (folder / "Cargo.toml").write_text(MANIFEST.format(TOP / "bindings" / "rust"))
+        check = ["cargo", "check", "--offline", "--message-format=short", "--manifest-path", folder / "Cargo.toml"]
+        for main, errors in (("", ()), (misuse.main, misuse.errors)):
+            (folder / "src" / "main.rs").write_text(f"fn main() {{{main}}}\n")
+            done = subprocess.run(check, stdout=subprocess.PIPE, stderr=subprocess.STDOUT, text=True, timeout=SECONDS)
+            found = tuple(sorted(set(re.findall(r"error\[(E\d+)\]", done.stdout))))
+            if found != errors or (done.returncode == 0) != (not errors):
+                return f"errors {', '.join(found) or 'none'}, {', '.join(errors) or 'none'} wanted"
+    return None
+
+
 def main():
     passed, failed = (int(sys.argv[1]), int(sys.argv[2])) if len(sys.argv) == 3 else (0, 0)
     with concurrent.futures.ThreadPoolExecutor(max_workers=min(4, os.cpu_count() or 1)) as workers:
         for body, why in zip(BODIES, workers.map(fault, BODIES)):
             print(f"must not compile: {body.does}: {'FAILED: ' + why if why else 'refused'}", flush=True)
+            failed += bool(why)
+            passed += not why
+        if not shutil.which("cargo"):
+            print("skipped: misuses in Rust: there is no cargo")
+        for misuse, why in zip(MISUSES, workers.map(rust_fault, MISUSES if shutil.which("cargo") else [])):
+            print(f"must not compile: {misuse.does}: {'FAILED: ' + why if why else 'refused'}", flush=True)
             failed += bool(why)
             passed += not why
     print(f"{passed} passed, {failed} failed")

@@ -1,0 +1,39 @@
+"""The shared library: `RART_SO` names it, otherwise it is beside this file, or in the folder where it is built."""
+
+import ctypes
+import os
+import pathlib
+
+from . import _sys
+
+
+def _path():
+    if "RART_SO" in os.environ:
+        return os.environ["RART_SO"]
+    here = pathlib.Path(__file__).resolve().parent
+    for folder in (here, here.parents[1] / "lib"):
+        if (folder / "librart_c.so").is_file():
+            return str(folder / "librart_c.so")
+    raise ImportError("there is no librart_c.so: run bindings/build, or set RART_SO")
+
+
+def _load():
+    library = ctypes.CDLL(_path())
+    for name, result, arguments in _sys.CALLS:
+        call = getattr(library, name)
+        call.restype, call.argtypes = result, arguments
+    return library
+
+
+LIBRARY = _load()
+
+
+def check(status, width):
+    """Returns a status of success; raises what another one stands for."""
+    if status == _sys.NO_MEMORY:
+        raise MemoryError("out of memory")
+    if status == _sys.FULL:
+        raise OverflowError("the map is full")
+    if status == _sys.KEY_TOO_LONG:
+        raise ValueError(f"a key has at most {width} bytes")
+    return status

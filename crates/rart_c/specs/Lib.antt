@@ -1,0 +1,14 @@
+pub mod Answers
+pub mod Batches
+pub mod Bounds
+pub mod Handles128
+pub mod Handles32
+pub mod Heap
+pub mod Loads
+pub mod Owned128
+pub mod Owned32
+pub mod Pairs128
+pub mod Pairs32
+pub mod Parked
+pub mod ParkedAt
+pub mod Stats

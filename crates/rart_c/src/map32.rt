@@ -1,0 +1,21 @@
+//! Maps from keys of at most 32 bytes.
+
+use rart::{AdaptiveRadixTree, ArrayKey};
+
+mod batches;
+mod edits;
+mod ends;
+mod handle;
+mod keys;
+mod loads;
+mod look_ups;
+mod pairs;
+mod stats;
+
+type Tree = AdaptiveRadixTree<ArrayKey<32>, u64>;
+
+/// What a handle owns.
+#[derive(Drop)]
+pub(crate) struct Map32 {
+    pub(crate) tree: Tree,
+}
