@@ -2,4 +2,5 @@
 
 mod numbers;
 mod parts;
+mod slices;
 mod whole;
