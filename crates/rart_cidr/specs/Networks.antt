@@ -1,18 +1,13 @@
 -- Networks as lists of bits, and when an address and a length make one.
 use Rattle.std.specs.Prelude.{◌≡◌, ◌<◌, ◌≤◌, ℕ, List, length, take, Result, Ok, Err}
-use Rattle.rart_cidr.specs.declared.cidr.CidrError.{CidrError}
-use Rattle.rart_cidr.specs.declared.cidr.CidrError.TheVariants.{Length, HostBits}
-use Rattle.rart_cidr.specs.declared.cidr.v4.Cidr4.{Cidr4}
-use Rattle.rart_cidr.specs.declared.cidr.v6.Cidr6.{Cidr6}
+use Rattle.rart_cidr.specs.declared.cidr.error.CidrError.{CidrError}
+use Rattle.rart_cidr.specs.declared.cidr.error.CidrError.TheVariants.{Length, HostBits}
+use Rattle.rart_cidr.specs.declared.cidr.Cidr.{Cidr}
 use Rattle.rart_cidr.specs.Bits.{AreClearAfter, network}
 
--- the bits of an IPv4 network
-abbrev pub bits4 : Cidr4 → List ℕ
-bits4 net = network net.octets net.len
-
--- the bits of an IPv6 network
-abbrev pub bits6 : Cidr6 → List ℕ
-bits6 net = network net.octets net.len
+-- the bits of a network
+abbrev pub cidr_bits : {N : ℕ} → Cidr N → List ℕ
+cidr_bits net = network net.octets net.len
 
 -- the network of the first n of an address's bits, if there are so many and the others are zeros
 abbrev pub IsNew : {N : Type 0} → (N → List ℕ) → List ℕ → ℕ → Result N CidrError → Type 0

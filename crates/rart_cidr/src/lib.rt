@@ -5,12 +5,13 @@
 
 mod bits;
 pub mod cidr;
+mod coded_network;
 mod stride;
 pub mod table;
 pub mod table4;
 pub mod table6;
 
-pub use crate::cidr::{Cidr4, Cidr6, CidrError, ParseCidrError};
+pub use crate::cidr::{Cidr, Cidr4, Cidr6, CidrError, ParseCidrError};
 pub use crate::table::BitTable;
 pub use crate::table::seen::SeenTable;
 pub use crate::table4::{CidrTable4, Matches4, Routes4, SeenTable4};

@@ -10,7 +10,7 @@ ghost use Rattle.rart_cidr.specs.Bits.{bits_of};
 ghost use Rattle.rart_cidr.specs.Edits.{InsertsRoute, RemovesRoute};
 ghost use Rattle.rart_cidr.specs.NetworkLoans.{lends_target6};
 ghost use Rattle.rart_cidr.specs.Longest.{IsLongestRoute, first_by_lengths};
-ghost use Rattle.rart_cidr.specs.Networks.{bits6};
+ghost use Rattle.rart_cidr.specs.Networks.{cidr_bits};
 
 mod matches;
 mod routes;
@@ -88,7 +88,7 @@ impl<T> CidrTable6<T> {
 
     /// Returns the target of exactly `net`.
     pub fn get(&self, net: &Cidr6) -> Option<&T>
-        ensures { option_copied result ≡ lookup (bits6 net.now) self.now }
+        ensures { option_copied result ≡ lookup (cidr_bits net.now) self.now }
     {
         self.routes.get(net.octets(), usize::from(net.len()))
     }
@@ -97,8 +97,8 @@ impl<T> CidrTable6<T> {
     ///
     /// After the borrow ends, only this target can have changed.
     pub fn get_mut<'a>(&'a mut self, net: &Cidr6) -> Option<&'a mut T>
-        ensures* writes_back { sem 𝓛 (lends_target6 T.row self.entry (bits6 net.now) result) }
-        ensures value { option_copied_mut result ≡ lookup (bits6 net.now) self.old }
+        ensures* writes_back { sem 𝓛 (lends_target6 T.row self.entry (cidr_bits net.now) result) }
+        ensures value { option_copied_mut result ≡ lookup (cidr_bits net.now) self.old }
     {
         if self.get(net).is_none() {
             None
@@ -109,29 +109,29 @@ impl<T> CidrTable6<T> {
 
     // Returns a mutable reference to the target of a stored network.
     fn get_stored_mut<'a>(&'a mut self, net: &Cidr6) -> Option<&'a mut T>
-        requires stored { lookup (bits6 net.now) self.old ≢ None }
-        ensures* writes_back { sem 𝓛 (lends_target6 T.row self.entry (bits6 net.now) result) }
-        ensures value { option_copied_mut result ≡ lookup (bits6 net.now) self.old }
+        requires stored { lookup (cidr_bits net.now) self.old ≢ None }
+        ensures* writes_back { sem 𝓛 (lends_target6 T.row self.entry (cidr_bits net.now) result) }
+        ensures value { option_copied_mut result ≡ lookup (cidr_bits net.now) self.old }
     {
         self.routes.get_mut(net.octets(), usize::from(net.len()))
     }
 
     /// Returns the route with the longest network that contains `addr`.
     pub fn longest_match(&self, addr: Ipv6Addr) -> Option<(Cidr6, &T)>
-        ensures value { option_map (λ p. (bits6 p.0, p.1.now)) result
+        ensures value { option_map (λ p. (cidr_bits p.0, p.1.now)) result
             ≡ longest_match (bits_of (ipv6_octets addr)) self.now }
         ensures longest_match { IsLongestRoute (bits_of (ipv6_octets addr)) self.now
-            (option_map (λ p. (bits6 p.0, p.1.now)) result) }
+            (option_map (λ p. (cidr_bits p.0, p.1.now)) result) }
     {
         self.longest_match_net(&Cidr6::host(addr))
     }
 
     /// Returns the route with the longest network that contains all addresses of `net`.
     pub fn longest_match_net(&self, net: &Cidr6) -> Option<(Cidr6, &T)>
-        ensures value { option_map (λ p. (bits6 p.0, p.1.now)) result
-            ≡ longest_match (bits6 net.now) self.now }
-        ensures longest_match { IsLongestRoute (bits6 net.now) self.now
-            (option_map (λ p. (bits6 p.0, p.1.now)) result) }
+        ensures value { option_map (λ p. (cidr_bits p.0, p.1.now)) result
+            ≡ longest_match (cidr_bits net.now) self.now }
+        ensures longest_match { IsLongestRoute (cidr_bits net.now) self.now
+            (option_map (λ p. (cidr_bits p.0, p.1.now)) result) }
     {
         self.ascends();
         self.seen::<Visits>()
@@ -141,10 +141,10 @@ impl<T> CidrTable6<T> {
     /// Returns what [`longest_match_net`](Self::longest_match_net) returns, found by looking up each length, the
     /// longest first: a law, and as slow as it reads.
     pub fn longest_by_lengths(&self, net: &Cidr6) -> Option<(Cidr6, &T)>
-        ensures value { option_map (λ p. (bits6 p.0, p.1.now)) result
-            ≡ longest_match (bits6 net.now) self.now }
-        ensures tried { option_map (λ p. (bits6 p.0, p.1.now)) result
-            ≡ first_by_lengths (bits6 net.now) (length (bits6 net.now)) self.now }
+        ensures value { option_map (λ p. (cidr_bits p.0, p.1.now)) result
+            ≡ longest_match (cidr_bits net.now) self.now }
+        ensures tried { option_map (λ p. (cidr_bits p.0, p.1.now)) result
+            ≡ first_by_lengths (cidr_bits net.now) (length (cidr_bits net.now)) self.now }
     {
         match self
             .routes
@@ -165,7 +165,7 @@ impl<T> CidrTable6<T> {
     pub fn insert(&mut self, net: &Cidr6, target: T) -> Result<Option<T>, Refused<T>>
     where
         T: Drop,
-        ensures { InsertsRoute (bits6 net.now) target self.old self.new result }
+        ensures { InsertsRoute (cidr_bits net.now) target self.old self.new result }
     {
         self.routes
             .insert(net.octets(), usize::from(net.len()), target)
@@ -180,7 +180,7 @@ impl<T> CidrTable6<T> {
     pub fn remove(&mut self, net: &Cidr6) -> Result<Option<T>, TreeError>
     where
         T: Drop,
-        ensures { RemovesRoute (bits6 net.now) self.old self.new result }
+        ensures { RemovesRoute (cidr_bits net.now) self.old self.new result }
     {
         self.routes.remove(net.octets(), usize::from(net.len()))
     }

@@ -5,10 +5,9 @@ use Rattle.std.specs.Net.Grammar.{IsIpText, IsIpv4Text, IsIpv6Text}
 use Rattle.std.specs.declared.net.ip_addr.IpAddr.{IpAddr}
 use Rattle.std.specs.declared.net.ip_addr.IpAddr.TheVariants as addr
 use Rattle.rart_cidr.specs.Bits.{bits_of}
-use Rattle.rart_cidr.specs.Networks.{bits4, bits6}
+use Rattle.rart_cidr.specs.Networks.{cidr_bits}
 use Rattle.rart_cidr.specs.Texts.{IsParsed, text4, text6}
-use Rattle.rart_cidr.specs.declared.cidr.v4.Cidr4.{Cidr4}
-use Rattle.rart_cidr.specs.declared.cidr.v6.Cidr6.{Cidr6}
+use Rattle.rart_cidr.specs.declared.cidr.Cidr.{Cidr}
 use Rattle.rart_cidr.specs.declared.cidr.parse.ParseCidrError.{ParseCidrError}
 use Rattle.rart_cidr.specs.declared.cidr.parse.ParseCidrError.TheVariants.{Address, Length, HostBits}
 use Rattle.rart_routes.specs.declared.net.Net.{Net}
@@ -16,8 +15,8 @@ use Rattle.rart_routes.specs.declared.net.Net.TheVariants.{V4, V6}
 
 -- the version of IP, and the network's bits
 abbrev pub net_bits : Net → ℕ × List ℕ
-net_bits (V4 net) = (4, bits4 net)
-net_bits (V6 net) = (6, bits6 net)
+net_bits (V4 net) = (4, cidr_bits net)
+net_bits (V6 net) = (6, cidr_bits net)
 
 -- a network as a word
 abbrev pub net_text : Net → List ℕ
@@ -30,11 +29,11 @@ IsHost (addr.V4 a) net = net_bits net ≡ (4, bits_of (ipv4_octets a))
 IsHost (addr.V6 a) net = net_bits net ≡ (6, bits_of (ipv6_octets a))
 
 -- what a word is as an IPv4 network, and as an IPv6 network: an address, a slash and a length
-abbrev pub IsParsed4 : List ℕ → Result Cidr4 ParseCidrError → Type 0
-IsParsed4 word result = IsParsed IsIpv4Text (λ a. bits_of (ipv4_octets a)) bits4 word result
+abbrev pub IsParsed4 : List ℕ → Result (Cidr 4) ParseCidrError → Type 0
+IsParsed4 word result = IsParsed IsIpv4Text (λ a. bits_of (ipv4_octets a)) cidr_bits word result
 
-abbrev pub IsParsed6 : List ℕ → Result Cidr6 ParseCidrError → Type 0
-IsParsed6 word result = IsParsed IsIpv6Text (λ a. bits_of (ipv6_octets a)) bits6 word result
+abbrev pub IsParsed6 : List ℕ → Result (Cidr 16) ParseCidrError → Type 0
+IsParsed6 word result = IsParsed IsIpv6Text (λ a. bits_of (ipv6_octets a)) cidr_bits word result
 
 -- a word whose address isn't an IPv4 address
 abbrev pub IsNetOf6 : List ℕ → Result Net ParseCidrError → Type 0

@@ -11,7 +11,7 @@ use Rattle.rart_trie.specs.walks.Calls.{MayLackMemory}
 use Rattle.rart_parts.specs.declared.error.TreeError.{TreeError}
 use Rattle.rart_cidr.specs.Bits.{bits_of}
 use Rattle.rart_cidr.specs.Edits.{InsertsRoute, RemovesRoute}
-use Rattle.rart_cidr.specs.Networks.{bits4, bits6}
+use Rattle.rart_cidr.specs.Networks.{cidr_bits}
 use Rattle.rart_routes.specs.Found.{of_version}
 use Rattle.rart_routes.specs.declared.net.Net.{Net}
 use Rattle.rart_routes.specs.declared.net.Net.TheVariants.{V4, V6}
@@ -24,19 +24,19 @@ no_routes = record { v4 = []; v6 = [] }
 
 -- the target of exactly this network
 abbrev pub target_at : Net → Tables → Option (ArrayKey TARGET_SIZE)
-target_at (V4 net) tables = lookup (bits4 net) tables.v4
-target_at (V6 net) tables = lookup (bits6 net) tables.v6
+target_at (V4 net) tables = lookup (cidr_bits net) tables.v4
+target_at (V6 net) tables = lookup (cidr_bits net) tables.v6
 
 -- the network's own table gets the route
 abbrev pub Inserts : Net → ArrayKey TARGET_SIZE → Tables → Tables
     → Result (Option (ArrayKey TARGET_SIZE)) (Refused (ArrayKey TARGET_SIZE)) → Type 0
-Inserts (V4 net) target old new result = InsertsRoute (bits4 net) target old.v4 new.v4 result × (new.v6 ≡ old.v6)
-Inserts (V6 net) target old new result = InsertsRoute (bits6 net) target old.v6 new.v6 result × (new.v4 ≡ old.v4)
+Inserts (V4 net) target old new result = InsertsRoute (cidr_bits net) target old.v4 new.v4 result × (new.v6 ≡ old.v6)
+Inserts (V6 net) target old new result = InsertsRoute (cidr_bits net) target old.v6 new.v6 result × (new.v4 ≡ old.v4)
 
 -- the network's own table loses the route
 abbrev pub Removes : Net → Tables → Tables → Result (Option (ArrayKey TARGET_SIZE)) TreeError → Type 0
-Removes (V4 net) old new result = RemovesRoute (bits4 net) old.v4 new.v4 result × (new.v6 ≡ old.v6)
-Removes (V6 net) old new result = RemovesRoute (bits6 net) old.v6 new.v6 result × (new.v4 ≡ old.v4)
+Removes (V4 net) old new result = RemovesRoute (cidr_bits net) old.v4 new.v4 result × (new.v6 ≡ old.v6)
+Removes (V6 net) old new result = RemovesRoute (cidr_bits net) old.v6 new.v6 result × (new.v4 ≡ old.v4)
 
 -- the route with the longest network that contains an address
 abbrev pub longest_route : IpAddr → Tables → Option ((ℕ × List ℕ) × ArrayKey TARGET_SIZE)
@@ -50,8 +50,8 @@ all_matches (addr.V6 a) tables = of_version 6 (matches (bits_of (ipv6_octets a))
 
 -- all routes inside a network, ascending by address, then by length
 abbrev pub all_within : Net → Tables → List ((ℕ × List ℕ) × ArrayKey TARGET_SIZE)
-all_within (V4 net) tables = of_version 4 (below (bits4 net) tables.v4)
-all_within (V6 net) tables = of_version 6 (below (bits6 net) tables.v6)
+all_within (V4 net) tables = of_version 4 (below (cidr_bits net) tables.v4)
+all_within (V6 net) tables = of_version 6 (below (cidr_bits net) tables.v6)
 
 -- all routes, those of IPv4 first
 abbrev pub all_routes : Tables → List ((ℕ × List ℕ) × ArrayKey TARGET_SIZE)

@@ -3,7 +3,7 @@ ghost use Rattle.std.specs.Prelude.{◌≡◌, ◌≢◌, ◌<◌, ◌^◌, ℕ,
 ghost use Rattle.std.specs.Option.{option_copied};
 ghost use Rattle.rart_cidr.specs.Texts.{address_part, is_slash, length_part};
 
-use crate::cidr::{Cidr4, Cidr6, CidrError};
+use crate::cidr::{Cidr, Cidr4, Cidr6, CidrError};
 use std::net::{Ipv4Addr, Ipv6Addr};
 use std::str::FromStr;
 use std::{fmt, str};
@@ -72,12 +72,12 @@ fn parse_len(digits: &[u8]) -> Option<u8>
     }
 }
 
-impl Cidr4 {
+impl Cidr<4> {
     ghost use Rattle.std.specs.Prelude.{◌≡◌, length};
     ghost use Rattle.std.specs.Net.Addr.{ipv4_octets};
     ghost use Rattle.std.specs.Net.Grammar.{IsIpv4Text};
     ghost use Rattle.rart_cidr.specs.Bits.{bits_of};
-    ghost use Rattle.rart_cidr.specs.Networks.{bits4};
+    ghost use Rattle.rart_cidr.specs.Networks.{cidr_bits};
     ghost use Rattle.rart_cidr.specs.Texts.{IsParsed};
 
     /// Returns the network that ASCII bytes write: an address, a slash, and a length, as `10.16.0.0/12`.
@@ -87,7 +87,7 @@ impl Cidr4 {
     /// The first that applies of [`ParseCidrError::Address`], [`ParseCidrError::Length`] and
     /// [`ParseCidrError::HostBits`]. A host's text has `/32` too.
     pub fn parse_ascii(text: &[u8]) -> Result<Cidr4, ParseCidrError>
-        ensures { IsParsed IsIpv4Text (λ a. bits_of (ipv4_octets a)) bits4 text.now result }
+        ensures { IsParsed IsIpv4Text (λ a. bits_of (ipv4_octets a)) cidr_bits text.now result }
     {
         let (address, length) = split_text(text);
         let Ok(addr) = Ipv4Addr::parse_ascii(address) else {
@@ -115,28 +115,28 @@ impl Cidr4 {
     }
 }
 
-impl FromStr for Cidr4 {
+impl FromStr for Cidr<4> {
     ghost use Rattle.std.specs.Net.Addr.{ipv4_octets};
     ghost use Rattle.std.specs.Net.Grammar.{IsIpv4Text};
     ghost use Rattle.rart_cidr.specs.Bits.{bits_of};
-    ghost use Rattle.rart_cidr.specs.Networks.{bits4};
+    ghost use Rattle.rart_cidr.specs.Networks.{cidr_bits};
     ghost use Rattle.rart_cidr.specs.Texts.{IsParsed};
 
     type Err = ParseCidrError;
 
-    ghost from_str_gives = { IsParsed IsIpv4Text (λ a. bits_of (ipv4_octets a)) bits4 };
+    ghost from_str_gives = { IsParsed IsIpv4Text (λ a. bits_of (ipv4_octets a)) cidr_bits };
 
     fn from_str(s: &str) -> Result<Cidr4, ParseCidrError> {
         Cidr4::parse_ascii(s.as_bytes())
     }
 }
 
-impl Cidr6 {
+impl Cidr<16> {
     ghost use Rattle.std.specs.Prelude.{◌≡◌, length};
     ghost use Rattle.std.specs.Net.Addr.{ipv6_octets};
     ghost use Rattle.std.specs.Net.Grammar.{IsIpv6Text};
     ghost use Rattle.rart_cidr.specs.Bits.{bits_of};
-    ghost use Rattle.rart_cidr.specs.Networks.{bits6};
+    ghost use Rattle.rart_cidr.specs.Networks.{cidr_bits};
     ghost use Rattle.rart_cidr.specs.Texts.{IsParsed};
 
     /// Returns the network that ASCII bytes write: an address, a slash, and a length, as `2001:db8::/32`.
@@ -146,7 +146,7 @@ impl Cidr6 {
     /// The first that applies of [`ParseCidrError::Address`], [`ParseCidrError::Length`] and
     /// [`ParseCidrError::HostBits`]. A host's text has `/128` too.
     pub fn parse_ascii(text: &[u8]) -> Result<Cidr6, ParseCidrError>
-        ensures { IsParsed IsIpv6Text (λ a. bits_of (ipv6_octets a)) bits6 text.now result }
+        ensures { IsParsed IsIpv6Text (λ a. bits_of (ipv6_octets a)) cidr_bits text.now result }
     {
         let (address, length) = split_text(text);
         let Ok(addr) = Ipv6Addr::parse_ascii(address) else {
@@ -174,16 +174,16 @@ impl Cidr6 {
     }
 }
 
-impl FromStr for Cidr6 {
+impl FromStr for Cidr<16> {
     ghost use Rattle.std.specs.Net.Addr.{ipv6_octets};
     ghost use Rattle.std.specs.Net.Grammar.{IsIpv6Text};
     ghost use Rattle.rart_cidr.specs.Bits.{bits_of};
-    ghost use Rattle.rart_cidr.specs.Networks.{bits6};
+    ghost use Rattle.rart_cidr.specs.Networks.{cidr_bits};
     ghost use Rattle.rart_cidr.specs.Texts.{IsParsed};
 
     type Err = ParseCidrError;
 
-    ghost from_str_gives = { IsParsed IsIpv6Text (λ a. bits_of (ipv6_octets a)) bits6 };
+    ghost from_str_gives = { IsParsed IsIpv6Text (λ a. bits_of (ipv6_octets a)) cidr_bits };
 
     fn from_str(s: &str) -> Result<Cidr6, ParseCidrError> {
         Cidr6::parse_ascii(s.as_bytes())

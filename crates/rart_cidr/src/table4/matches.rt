@@ -4,7 +4,7 @@ ghost use Rattle.std.specs.Iterator.{YieldsFirstBy, item_count};
 ghost use Rattle.std.specs.Net.Addr.{ipv4_octets};
 ghost use Rattle.rart_keys.specs.Filters.{matches};
 ghost use Rattle.rart_cidr.specs.Bits.{bits_of};
-ghost use Rattle.rart_cidr.specs.Networks.{bits4};
+ghost use Rattle.rart_cidr.specs.Networks.{cidr_bits};
 
 use crate::cidr::Cidr4;
 use crate::table::BitTable;
@@ -27,17 +27,17 @@ pub struct Matches4<'a, T> {
 impl<'a, T> Model for Matches4<'a, T> {
     ghost use Rattle.std.specs.Prelude.{ℕ, List};
     ghost use Rattle.rart_cidr.specs.Matches.{matches_from};
-    ghost use Rattle.rart_cidr.specs.Networks.{bits4};
+    ghost use Rattle.rart_cidr.specs.Networks.{cidr_bits};
 
     ghost Value = { List (List ℕ × T) };
 
-    ghost view = { λ m. matches_from m.low (bits4 m.net) m.routes.now };
+    ghost view = { λ m. matches_from m.low (cidr_bits m.net) m.routes.now };
 }
 
 impl<'a, T> Iterator for Matches4<'a, T> {
     type Item = (Cidr4, &'a T);
 
-    ghost next_gives = { YieldsFirstBy (λ p. (bits4 p.0, p.1.now)) (λ rest. rest) };
+    ghost next_gives = { YieldsFirstBy (λ p. (cidr_bits p.0, p.1.now)) (λ rest. rest) };
 
     ghost remaining = { item_count (λ rest. rest) };
 
@@ -68,7 +68,7 @@ impl<T> CidrTable4<T> {
 
     /// Returns the routes whose networks contain all addresses of `net`, the shortest first.
     pub fn matches_net(&self, net: &Cidr4) -> Matches4<'_, T>
-        ensures { result ≡ matches (bits4 net.now) self.now }
+        ensures { result ≡ matches (cidr_bits net.now) self.now }
     {
         Matches4 {
             routes: &self.routes,

@@ -1,16 +1,12 @@
 //! The routes of a table in order: all, or those inside a network.
-ghost use Rattle.std.specs.Prelude.{◌≡◌, ◌≤◌, ◌+◌, ◌*◌, [], ◌∷◌, length, take, IfErr, IfOk};
+ghost use Rattle.std.specs.Prelude.{◌≡◌, IfErr, IfOk};
 ghost use Rattle.std.specs.Iterator.{YieldsFirstBy, item_count};
-ghost use Rattle.rart_keys.specs.ArrayKeyBytes.{array_key_bytes};
 ghost use Rattle.rart_keys.specs.Filters.{below};
-ghost use Rattle.rart_keys.specs.KeyBytes.{AreBytes};
 ghost use Rattle.rart_trie.specs.walks.Calls.{MayLackMemory};
-ghost use Rattle.rart_cidr.specs.Bits.{bits_of, code_bits};
-ghost use Rattle.rart_cidr.specs.Networks.{bits6};
-ghost use Rattle.rart_cidr.specs.Routes.{IsCode, coded_network};
+ghost use Rattle.rart_cidr.specs.Networks.{cidr_bits};
 
-use crate::bits::{are_bytes, code_byte, code_len};
 use crate::cidr::Cidr6;
+use crate::coded_network::network_of;
 use crate::table::walk::Walk;
 use crate::table6::CidrTable6;
 use rart::{ArrayKey, TreeError};
@@ -36,52 +32,22 @@ pub struct Routes6<'a, T> {
 
 impl<'a, T> Model for Routes6<'a, T> {
     ghost use Rattle.std.specs.Prelude.{ℕ, List, []};
-    ghost use Rattle.rart_cidr.specs.Networks.{bits6};
+    ghost use Rattle.rart_cidr.specs.Networks.{cidr_bits};
     ghost use Rattle.rart_cidr.specs.Walks.{AreWithin, up_to_outside};
     ghost use Rattle.rart_cidr.specs.declared.table6.routes.Rest.TheVariants.{Active, Done};
 
     ghost Value = { List (List ℕ × T) };
 
     ghost view = { λ r. elim r.rest
-        [ Active walk ↦ up_to_outside (bits6 r.net) walk.0 | Done ↦ [] ] };
+        [ Active walk ↦ up_to_outside (cidr_bits r.net) walk.0 | Done ↦ [] ] };
 
     ghost invariant = { λ r. elim r.rest [ Active walk ↦ AreWithin 128 walk.0 | Done ↦ Unit {0} ] };
-}
-
-// The octets of a key, the byte of a code, and zeros.
-fn octets_of(key: &ArrayKey<16>, code: u8) -> [u8; 16]
-    requires code { IsCode (code ∷ []) }
-    requires width { length (coded_network (array_key_bytes key.now) (code ∷ [])) ≤ 128 }
-    ensures value { take (8 * length (array_key_bytes key.now) + length (code_bits code))
-        (bits_of result) ≡ coded_network (array_key_bytes key.now) (code ∷ []) }
-    ensures bytes { AreBytes result }
-    ensures full_width { length result ≡ 16 }
-{
-    let at = key.as_slice().len();
-    let mut octets = *key.as_array();
-    if at < 16 {
-        octets[at] = code_byte(code);
-        are_bytes(&octets);
-        return octets;
-    }
-    are_bytes(&octets);
-    octets
-}
-
-// The network of the bytes of a key and a code.
-fn network_of(key: &ArrayKey<16>, code: u8) -> Cidr6
-    requires code { IsCode (code ∷ []) }
-    requires width { length (coded_network (array_key_bytes key.now) (code ∷ [])) ≤ 128 }
-    ensures { bits6 result ≡ coded_network (array_key_bytes key.now) (code ∷ []) }
-{
-    let bits = 8 * (key.as_slice().len() as u8) + code_len(code);
-    Cidr6::masked(Ipv6Addr::from_octets(octets_of(key, code)), bits)
 }
 
 impl<'a, T> Iterator for Routes6<'a, T> {
     type Item = (Cidr6, &'a T);
 
-    ghost next_gives = { YieldsFirstBy (λ p. (bits6 p.0, p.1.now)) (λ rest. rest) };
+    ghost next_gives = { YieldsFirstBy (λ p. (cidr_bits p.0, p.1.now)) (λ rest. rest) };
 
     ghost remaining = { item_count (λ rest. rest) };
 
@@ -96,7 +62,7 @@ impl<'a, T> Iterator for Routes6<'a, T> {
             Rest::Active(walk) => walk.step()?,
             Rest::Done => return None,
         };
-        let net = network_of(&key, code);
+        let net = network_of(key.as_slice(), code);
         if self.net.contains_net(&net) {
             return Some((net, target));
         }
@@ -126,7 +92,7 @@ impl<T> CidrTable6<T> {
     ///
     /// [`TreeError::Memory`] if the table isn't empty and the allocation fails.
     pub fn within(&self, net: &Cidr6) -> Result<Routes6<'_, T>, TreeError>
-        ensures routes { IfOk result (λ it. it ≡ below (bits6 net.now) self.now) }
+        ensures routes { IfOk result (λ it. it ≡ below (cidr_bits net.now) self.now) }
         ensures memory { IfErr result (MayLackMemory self.now) }
     {
         self.ascends();

@@ -1,7 +1,7 @@
 //! A table of IPv6 networks whose reads are counted.
 ghost use Rattle.std.specs.Prelude.{◌≡◌, ◌≤◌, ◌+◌, option_map};
 ghost use Rattle.rart_keys.specs.Filters.{longest_match};
-ghost use Rattle.rart_cidr.specs.Networks.{bits6};
+ghost use Rattle.rart_cidr.specs.Networks.{cidr_bits};
 
 use crate::cidr::Cidr6;
 use crate::table::seen::SeenTable;
@@ -48,8 +48,8 @@ impl<'a, T, C: Count> SeenTable6<'a, T, C> {
         nodes: &mut C,
         strides: &mut C,
     ) -> Option<(Cidr6, &'a T)>
-        ensures value { option_map (λ p. (bits6 p.0, p.1.now)) result
-            ≡ longest_match (bits6 net.now) self.now }
+        ensures value { option_map (λ p. (cidr_bits p.0, p.1.now)) result
+            ≡ longest_match (cidr_bits net.now) self.now }
         ensures node_visits { C.number nodes.new ≤ C.number nodes.old + 153 }
         ensures stride_visits { C.number strides.new ≤ C.number strides.old + 17 }
     {

@@ -1,6 +1,6 @@
 use Rattle.std.proofs.Common.{◌≡◌, ◌≤◌, arith, ap, length, subst, sym, ◌∙◌}
 use Rattle.rart_cidr.specs.Bits.{network}
-use Rattle.rart_cidr.specs.Networks.{bits4}
+use Rattle.rart_cidr.specs.Networks.{cidr_bits}
 use Rattle.rart_keys.specs.SortedMap.{lookup}
 use Rattle.rart_cidr.specs.Walks.{AreWithin}
 use Rattle.rart_cidr.proofs.routes.LoanLemmas.{lent_some}
@@ -9,7 +9,7 @@ use Rattle.rart_cidr.proofs.table4.CidrTable4.get_stored_mut.Goals as goal
 
 pub invariant_of-self-lent : goal.invariant_of-self-lent
 invariant_of-self-lent g c =
-    let n : network c.octets.result.now c.from.result ≡ bits4 c.args.net.now
+    let n : network c.octets.result.now c.from.result ≡ cidr_bits c.args.net.now
     = ap (network c.octets.result.now) (c.from.ensures ∙ c.len.ensures.value) ∙ c.octets.ensures.value in
     let few : length (network c.octets.result.now c.from.result) ≤ 32
     = omega (arith, ap length n, c.len.ensures.value, c.len.ensures.at_most) in

@@ -1,12 +1,12 @@
 use Rattle.std.proofs.Common.{◌≡◌, ◌≤◌, arith, ap, length, ◌∙◌}
 use Rattle.rart_cidr.specs.Bits.{network}
-use Rattle.rart_cidr.specs.Networks.{bits4}
+use Rattle.rart_cidr.specs.Networks.{cidr_bits}
 use Rattle.rart_cidr.proofs.routes.WidthLemmas.{insert_within}
 use Rattle.rart_cidr.proofs.table4.CidrTable4.insert.Goals as goal
 
 pub invariant_of-self : goal.invariant_of-self
 invariant_of-self g c =
-    let n : network c.octets.result.now c.from.result ≡ bits4 c.args.net.now
+    let n : network c.octets.result.now c.from.result ≡ cidr_bits c.args.net.now
     = ap (network c.octets.result.now) (c.from.ensures ∙ c.len.ensures.value) ∙ c.octets.ensures.value in
     let few : length (network c.octets.result.now c.from.result) ≤ 32
     = omega (arith, ap length n, c.len.ensures.value, c.len.ensures.at_most) in

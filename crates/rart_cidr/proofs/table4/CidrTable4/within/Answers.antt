@@ -1,7 +1,7 @@
 use Rattle.std.proofs.Common.{◌≡◌, true, ap, subst, sym, ◌∙◌}
 use Rattle.rart_keys.specs.Ranges.{is_from_bound, pairs_from}
 use Rattle.rart_cidr.specs.Bits.{network}
-use Rattle.rart_cidr.specs.Networks.{bits4}
+use Rattle.rart_cidr.specs.Networks.{cidr_bits}
 use Rattle.rart_cidr.specs.Walks.{AreWithin, up_to_outside}
 use Rattle.rart_cidr.proofs.walks.FilterLemmas.{up_to_outside_is, within_filter}
 use Rattle.rart_cidr.proofs.table4.CidrTable4.within.Goals as goal
@@ -13,9 +13,9 @@ invariant_of-result g c = let q = network c.octets.result.now c.from.result in
 
 pub returns-clause-routes : goal.returns-clause-routes
 returns-clause-routes g c =
-    let n : network c.octets.result.now c.from.result ≡ bits4 c.args.net.now
+    let n : network c.octets.result.now c.from.result ≡ cidr_bits c.args.net.now
     = ap (network c.octets.result.now) (c.from.ensures ∙ c.len.ensures.value) ∙ c.octets.ensures.value in
-    ap (up_to_outside (bits4 c.args.net.now)) (c.in_ok-walk.ensures.routes
+    ap (up_to_outside (cidr_bits c.args.net.now)) (c.in_ok-walk.ensures.routes
     ∙ ap (pairs_from true (network c.octets.result.now c.from.result)) c.self.view_is
     ∙ ap (λ z. pairs_from true z c.args.self.now) n)
-    ∙ up_to_outside_is (bits4 c.args.net.now) c.args.self.now c.ascends.ensures
+    ∙ up_to_outside_is (cidr_bits c.args.net.now) c.args.self.now c.ascends.ensures

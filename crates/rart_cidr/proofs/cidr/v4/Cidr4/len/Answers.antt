@@ -1,9 +1,0 @@
-use Rattle.std.proofs.Common.{◌*◌, ◌≤◌, length, arith, sym}
-use Rattle.rart_cidr.proofs.networks.NetworkLemmas.{network-length}
-use Rattle.rart_cidr.proofs.cidr.v4.Cidr4.len.Goals as goal
-
-pub returns-clause-value : goal.returns-clause-value
-returns-clause-value c =
-    let net = c.args.self.now in
-    sym (network-length net.octets net.len (let enough : net.len ≤ 8 * length net.octets
-    = omega (arith, net.within, net.full_width) in enough))
