@@ -1,0 +1,58 @@
+//! A recursive type over the map.
+ghost use Rattle.std.specs.Prelude.{⊤};
+
+use crate::mapping::{NodeMapping, SortedKeyedMapping};
+
+/// A tree.
+pub enum Tree {
+    /// A leaf.
+    Leaf(u64),
+    /// An inner node.
+    Inner(SortedKeyedMapping<Tree, 4, Option<u64>>),
+}
+
+/// Returns the leaf at the end of a path.
+pub fn find<'a>(tree: &'a Tree, path: &[u8]) -> Option<&'a u64> {
+    match tree {
+        Tree::Leaf(number) => {
+            if path.is_empty() {
+                Some(number)
+            } else {
+                None
+            }
+        }
+        Tree::Inner(map) => match path.split_first() {
+            Some((byte, rest)) => match map.seek_child(*byte) {
+                Some(child) => find(child, rest),
+                None => None,
+            },
+            None => map.extra().as_ref(),
+        },
+    }
+}
+
+/// Changes the leaf at the end of a path, and returns whether there is one.
+pub fn set(tree: &mut Tree, path: &[u8], new: u64) -> bool
+    ensures { ⊤ }
+{
+    match tree {
+        Tree::Leaf(number) => {
+            if path.is_empty() {
+                *number = new;
+                true
+            } else {
+                false
+            }
+        }
+        Tree::Inner(map) => match path.split_first() {
+            Some((byte, rest)) => match map.seek_child_mut(*byte) {
+                Some(child) => set(child, rest, new),
+                None => false,
+            },
+            None => {
+                *map.extra_mut() = Some(new);
+                true
+            }
+        },
+    }
+}
