@@ -1,1 +1,2 @@
+pub mod SortedEdits
 pub mod SortedSearch

@@ -1,3 +1,4 @@
+pub mod Bounds
 pub mod Contents
 pub mod Loans
 pub mod formers

@@ -14,13 +14,7 @@ pub enum Tree {
 /// Returns the leaf at the end of a path.
 pub fn find<'a>(tree: &'a Tree, path: &[u8]) -> Option<&'a u64> {
     match tree {
-        Tree::Leaf(number) => {
-            if path.is_empty() {
-                Some(number)
-            } else {
-                None
-            }
-        }
+        Tree::Leaf(number) => { if path.is_empty() { Some(number) } else { None } }
         Tree::Inner(map) => match path.split_first() {
             Some((byte, rest)) => match map.seek_child(*byte) {
                 Some(child) => find(child, rest),

@@ -1,17 +1,23 @@
 //! A map from bytes to children by sorted keys, which a contract reads as its ascending entries and an extra value.
 
 ghost use Rattle.std.specs.Prelude.{◌≡◌, ℕ, [], ◌∷◌, IfSome, Some, ◌++◌, ◌<◌, ◌≤◌, length, IfErr, IfOk, OnOk, OnErr};
-ghost use Rattle.std.specs.Prelude.{MatchOption};
-ghost use Rattle.rart_parts.specs.Entries.{BytesAscend, entries_above};
+ghost use Rattle.std.specs.Prelude.{MatchOption, None, option_map};
+ghost use Rattle.std.specs.Iterator.{UpTo, YieldsFirst, YieldsFirstBy, item_count};
+ghost use Rattle.std.specs.Iterator.SizeHint.{IsWithinCount};
+ghost use Rattle.rart_parts.specs.Entries.{BytesAscend, IsLastUnder, child_at, entries_above};
 ghost use Rattle.rart_parts.specs.Errors.{IsMemory};
+ghost use Rattle.rart_maps.specs.Bounds.{bound_of};
 
 mod search;
 
 use crate::mapping::NodeMapping;
-use crate::mapping::sorted_keyed_mapping::search::{first_above, goes_last, keys_are_bytes, place_of};
+use crate::mapping::sorted_keyed_mapping::search::{
+    first_above, first_not_below, goes_last, keys_are_bytes, place_of,
+};
 use rart_block::Block;
 use rart_parts::TreeError;
 use std::alloc::Global;
+use std::iter::FusedIterator;
 use std::marker::Model;
 
 /// Maps bytes to at most `W` children, kept in the order of the bytes, and stores an extra value of type `E`. All is in
@@ -36,8 +42,48 @@ impl<N, const W: usize, E> Model for SortedKeyedMapping<N, W, E> {
     ghost invariant = { λ m. IsSortedKeyed W m.block.keys m.block.items W };
 }
 
-impl<N, const W: usize, E> SortedKeyedMapping<N, W, E> {
+impl<N, const W: usize> SortedKeyedMapping<N, W> {
     /// Returns a map with no child. It allocates places for `W` children at once.
+    ///
+    /// # Errors
+    ///
+    /// [`TreeError::Memory`] if the allocation fails.
+    pub fn new(alloc: Global) -> Result<Self, TreeError>
+        requires { W ≤ 255 }
+        ensures ok { IfOk result (λ m. m.entries ≡ []) }
+        ensures memory { IfErr result IsMemory }
+    {
+        match SortedKeyedMapping::with_extra(alloc, ()) {
+            Ok(map) => Ok(map),
+            Err(_) => Err(TreeError::Memory),
+        }
+    }
+
+    /// Moves the children of a sorted mapping of another capacity into a new map.
+    ///
+    /// # Errors
+    ///
+    /// [`TreeError::Memory`] if the allocation fails. `source` is then unchanged.
+    pub fn from_resized<const U: usize, F>(
+        alloc: Global,
+        source: &mut SortedKeyedMapping<N, U, F>,
+    ) -> Result<Self, TreeError>
+        requires narrow { W ≤ 255 }
+        requires at_most { length source.old.entries ≤ W }
+        ensures ok { IfOk result (λ m. m.entries ≡ source.old.entries) }
+        ensures emptied { OnOk result (source.new.entries ≡ []) }
+        ensures extra { source.new.extra ≡ source.old.extra }
+        ensures memory { IfErr result IsMemory }
+        ensures unchanged { OnErr result (source.new ≡ source.old) }
+    {
+        let mut map = SortedKeyedMapping::new(alloc)?;
+        map.fill_from_resized(source);
+        Ok(map)
+    }
+}
+
+impl<N, const W: usize, E> SortedKeyedMapping<N, W, E> {
+    /// Returns a map with no child that stores `extra`. It allocates places for `W` children at once.
     ///
     /// # Errors
     ///
@@ -59,6 +105,106 @@ impl<N, const W: usize, E> SortedKeyedMapping<N, W, E> {
         ensures { result.now ≡ self.now.extra }
     {
         self.block.head()
+    }
+
+    /// Moves the children of a sorted mapping into this empty map. It does not allocate.
+    pub fn fill_from_resized<const U: usize, F>(&mut self, source: &mut SortedKeyedMapping<N, U, F>)
+        requires empty { self.old.entries ≡ [] }
+        requires at_most { length source.old.entries ≤ W }
+        ensures filled { self.new.entries ≡ source.old.entries }
+        ensures emptied { source.new.entries ≡ [] }
+        ensures extra { self.new.extra ≡ self.old.extra }
+        ensures source_extra { source.new.extra ≡ source.old.extra }
+    {
+        let count = source.block.len();
+        let mut keys = *self.block.keys();
+        keys[..count].copy_from_slice(&source.block.keys()[..count]);
+        let unused = [255; U];
+        *self.block.keys_mut() = keys;
+        *source.block.keys_mut() = unused;
+        self.block.append(&mut source.block);
+    }
+
+    /// Returns the children with their bytes, ascending.
+    pub fn iter(&self) -> SortedKeyedMappingIter<'_, N>
+        ensures entries { result ≡ self.now.entries }
+        ensures ascending { BytesAscend self.now.entries }
+    {
+        SortedKeyedMappingIter {
+            keys: self.block.keys(),
+            children: self.block.as_slice(),
+        }
+    }
+
+    /// Returns the children at the bytes above `byte`, ascending. It starts at the first of them.
+    pub fn iter_above(&self, byte: u8) -> SortedKeyedMappingIter<'_, N>
+        ensures entries { result ≡ entries_above byte self.now.entries }
+        ensures ascending { BytesAscend (entries_above byte self.now.entries) }
+    {
+        let keys: &[u8] = self.block.keys();
+        let at = first_above(byte, self.block.keys(), self.block.len());
+        SortedKeyedMappingIter {
+            keys: &keys[at..],
+            children: &self.block.as_slice()[at..],
+        }
+    }
+
+    /// Returns the child at the greatest byte below `above`, or at the greatest of all if that is `None`, with its byte.
+    pub fn last_under(&self, above: Option<u8>) -> Option<(u8, &N)>
+        ensures last { IsLastUnder (bound_of above) self.now.entries
+            (option_map (λ e. (e.0, e.1.now)) result) }
+        ensures ascending { BytesAscend self.now.entries }
+        ensures bytes { (b : ℕ) → 256 ≤ b → child_at b self.now.entries ≡ None }
+    {
+        let keys = self.block.keys();
+        let end = first_not_below(above, keys, self.num_children());
+        if end == 0 {
+            return None;
+        }
+        Some((keys[end - 1], &self.block.as_slice()[end - 1]))
+    }
+
+    /// Removes the only child and returns it with its byte.
+    pub fn take_value_for_leaf(&mut self) -> (u8, N)
+        requires { length self.old.entries ≡ 1 }
+        ensures taken { self.old.entries ≡ result ∷ [] }
+        ensures emptied { self.new.entries ≡ [] }
+        ensures extra { self.new.extra ≡ self.old.extra }
+    {
+        let keys = self.block.keys_mut();
+        let key = keys[0];
+        keys[0] = 255;
+        (key, self.block.remove(0))
+    }
+
+    /// Removes the child at the least byte and returns it with its byte.
+    fn take_first(&mut self) -> Option<(u8, N)>
+        ensures entries { MatchOption result ((self.old.entries ≡ []) × (self.new.entries ≡ []))
+            (λ e. self.old.entries ≡ e ∷ self.new.entries) }
+        ensures extra { self.new.extra ≡ self.old.extra }
+    {
+        if self.block.is_empty() {
+            return None;
+        }
+        let key = self.block.keys()[0];
+        let child = self.delete_child(key).unwrap();
+        Some((key, child))
+    }
+
+    /// Removes the child at the greatest byte and returns it with its byte.
+    pub(crate) fn take_last(&mut self) -> Option<(u8, N)>
+        ensures entries { MatchOption result ((self.old.entries ≡ []) × (self.new.entries ≡ []))
+            (λ e. self.old.entries ≡ self.new.entries ++ e ∷ []) }
+        ensures extra { self.new.extra ≡ self.old.extra }
+    {
+        let Some(child) = self.block.pop() else {
+            return None;
+        };
+        let last = self.block.len();
+        let keys = self.block.keys_mut();
+        let key = keys[last];
+        keys[last] = 255;
+        Some((key, child))
     }
 }
 
@@ -139,3 +285,104 @@ impl<N, const W: usize, E> SortedKeyedMapping<N, W, E> {
         extra
     }
 }
+
+/// Iterates over the children with their bytes, ascending. A contract reads it as the list of remaining items.
+#[derive(Drop)]
+pub struct SortedKeyedMappingIter<'a, N> {
+    // The keys past the children do not count.
+    keys: &'a [u8],
+    children: &'a [N],
+}
+
+impl<'a, N> Model for SortedKeyedMappingIter<'a, N> {
+    ghost use Rattle.std.specs.Prelude.{ℕ, List, length, ◌≤◌};
+    ghost use Rattle.std.specs.Coded.{coded_list, coded×, coded_ℕ};
+    ghost use Rattle.std.specs.List.{zip};
+
+    ghost Value = { List (ℕ × N) };
+
+    ghost coded = { coded_list (coded× coded_ℕ N.code) };
+
+    ghost view = { λ it. zip it.keys.now it.children.now };
+
+    ghost invariant = { λ it. length it.children.now ≤ length it.keys.now };
+}
+
+impl<'a, N> Iterator for SortedKeyedMappingIter<'a, N> {
+    type Item = (u8, &'a N);
+
+    ghost next_gives = { YieldsFirstBy (λ item. (item.0, item.1.now)) (λ rest. rest) };
+
+    ghost remaining = { item_count (λ rest. rest) };
+
+    fn next(&mut self) -> Option<(u8, &'a N)> {
+        match (self.keys.split_first(), self.children.split_first()) {
+            (Some((key, keys)), Some((child, children))) => {
+                self.keys = keys;
+                self.children = children;
+                Some((*key, child))
+            }
+            _ => None,
+        }
+    }
+}
+
+impl<'a, N> FusedIterator for SortedKeyedMappingIter<'a, N> {}
+
+/// Iterates over the children by value, ascending by byte. Dropping it drops the remaining children and the extra value.
+#[derive(Drop)]
+pub struct SortedKeyedMappingIntoIter<N, const W: usize, E = ()> {
+    rest: SortedKeyedMapping<N, W, E>,
+}
+
+impl<N, const W: usize, E> Model for SortedKeyedMappingIntoIter<N, W, E> {
+    ghost use Rattle.std.specs.Prelude.{ℕ, List};
+    ghost use Rattle.std.specs.Coded.{coded_list, coded×, coded_ℕ};
+
+    ghost Value = { List (ℕ × N) };
+
+    ghost coded = { coded_list (coded× coded_ℕ N.code) };
+
+    ghost view = { λ it. it.rest.entries };
+}
+
+impl<N: Drop, const W: usize, E: Drop> IntoIterator for SortedKeyedMapping<N, W, E> {
+    type Item = (u8, N);
+
+    type IntoIter = SortedKeyedMappingIntoIter<N, W, E>;
+
+    ghost into_iter_gives = { λ m it. it ≡ m.entries };
+
+    fn into_iter(self) -> SortedKeyedMappingIntoIter<N, W, E> {
+        SortedKeyedMappingIntoIter { rest: self }
+    }
+}
+
+impl<N: Drop, const W: usize, E: Drop> Iterator for SortedKeyedMappingIntoIter<N, W, E> {
+    type Item = (u8, N);
+
+    ghost next_gives = { YieldsFirst (λ rest. rest) };
+
+    ghost remaining = { item_count (λ rest. rest) };
+
+    fn next(&mut self) -> Option<(u8, N)> {
+        self.rest.take_first()
+    }
+
+    fn size_hint(&self) -> (usize, Option<usize>)
+        ensures lower { IsWithinCount result.0 (item_count (λ rest. rest) self.now) }
+        ensures upper { IfSome result.1 (UpTo (item_count (λ rest. rest) self.now)) }
+        ensures exact { result ≡ (length self.now, Some (length self.now)) }
+    {
+        let rest = self.rest.num_children();
+        (rest, Some(rest))
+    }
+}
+
+impl<N: Drop, const W: usize, E: Drop> ExactSizeIterator for SortedKeyedMappingIntoIter<N, W, E> {
+    fn len(&self) -> usize {
+        self.rest.num_children()
+    }
+}
+
+impl<N: Drop, const W: usize, E: Drop> FusedIterator for SortedKeyedMappingIntoIter<N, W, E> {}

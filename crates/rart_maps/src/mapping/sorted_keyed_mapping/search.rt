@@ -2,8 +2,7 @@
 ghost use Rattle.std.specs.Prelude.{◌↔◌, ◌≤◌, ℕ, slice_index, IsTrue};
 ghost use Rattle.rart_parts.specs.Keys.{IsAscendingBelow, IsFirstAbove, IsPlaceOf};
 ghost use Rattle.rart_parts.specs.SortedKeyed.{IsPadded};
-
-
+ghost use Rattle.rart_maps.specs.Bounds.{IsFirstNotBelow, bound_of};
 
 /// Returns the place of a key among the first `count`, which ascend, where the others are 255.
 pub(super) fn place_of<const W: usize>(key: u8, keys: &[u8; W], count: usize) -> Option<usize>
@@ -45,6 +44,26 @@ pub(super) fn first_above<const W: usize>(key: u8, keys: &[u8; W], count: usize)
         }
     }
     if place < count { place } else { count }
+}
+
+/// Returns the first place among the first `count` keys, which ascend, whose key is not below `above`; `count` where
+/// there is none. No key is at or above `None`.
+pub(super) fn first_not_below<const W: usize>(
+    above: Option<u8>,
+    keys: &[u8; W],
+    count: usize,
+) -> usize
+    requires at_most { count ≤ W }
+    requires ascending { IsAscendingBelow keys.now count }
+    requires padded { IsPadded keys.now count W }
+    ensures { IsFirstNotBelow keys.now count (bound_of above) result }
+{
+    keys_are_bytes(keys);
+    match above {
+        None => count,
+        Some(0) => 0,
+        Some(byte) => first_above(byte - 1, keys, count),
+    }
 }
 
 /// Proves that the elements of an array of bytes are below 256.
