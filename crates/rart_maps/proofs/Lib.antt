@@ -1,2 +1,4 @@
+pub mod DenseLemmas
+pub mod DenseRemovals
 pub mod SortedEdits
 pub mod SortedSearch

@@ -1,13 +1,20 @@
 //! Maps from bytes to children, in kinds of storage, which a contract reads as entries ascending by byte.
 
+pub mod direct_mapping;
+pub mod indexed_mapping;
 pub mod sorted_keyed_mapping;
 
 ghost use Rattle.std.specs.Prelude.{◌≡◌, ℕ, ◌<◌, ◌≤◌, List, length, OnSome, None};
 ghost use Rattle.std.specs.Borrow.{sem, LendsSo};
 ghost use Rattle.std.specs.Option.{option_copied, option_copied_mut};
+ghost use Rattle.rart_maps.specs.Bounds.{bound_of};
 ghost use Rattle.rart_parts.specs.Entries.{BytesAscend, child_at, with_entry, without_byte, replaced_at};
 
-pub use sorted_keyed_mapping::SortedKeyedMapping;
+pub use direct_mapping::{DirectMapping, DirectMappingIntoIter, DirectMappingIter};
+pub use indexed_mapping::{IndexedMapping, IndexedMappingIntoIter, IndexedMappingIter};
+pub use sorted_keyed_mapping::{
+    SortedKeyedMapping, SortedKeyedMappingIntoIter, SortedKeyedMappingIter,
+};
 
 /// Maps bytes to at most `NUM_CHILDREN` children. No call of this trait allocates.
 pub trait NodeMapping<N, const NUM_CHILDREN: usize> {
@@ -52,5 +59,16 @@ pub trait NodeMapping<N, const NUM_CHILDREN: usize> {
         ensures { result ≡ NUM_CHILDREN }
     {
         NUM_CHILDREN
+    }
+}
+
+/// Returns a bound as a number. No byte reaches that of `None`.
+pub(crate) fn bound(above: Option<u8>) -> usize
+    ensures value { result ≡ bound_of above }
+    ensures at_most { result ≤ 256 }
+{
+    match above {
+        Some(byte) => byte as usize,
+        None => 256,
     }
 }

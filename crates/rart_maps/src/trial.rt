@@ -1,7 +1,8 @@
 //! A recursive type over the map.
 ghost use Rattle.std.specs.Prelude.{⊤};
 
-use crate::mapping::{NodeMapping, SortedKeyedMapping};
+use crate::mapping::{DirectMapping, IndexedMapping, NodeMapping, SortedKeyedMapping};
+use rart_parts::utils::bitset::Bitset64;
 
 /// A tree.
 pub enum Tree {
@@ -9,6 +10,10 @@ pub enum Tree {
     Leaf(u64),
     /// An inner node.
     Inner(SortedKeyedMapping<Tree, 4, Option<u64>>),
+    /// A wide inner node.
+    Wide(IndexedMapping<Tree, 48, Bitset64<1>, Option<u64>>),
+    /// An inner node with a place for each byte.
+    Full(DirectMapping<Tree, Option<u64>>),
 }
 
 /// Returns the leaf at the end of a path.
@@ -16,6 +21,20 @@ pub fn find<'a>(tree: &'a Tree, path: &[u8]) -> Option<&'a u64> {
     match tree {
         Tree::Leaf(number) => { if path.is_empty() { Some(number) } else { None } }
         Tree::Inner(map) => match path.split_first() {
+            Some((byte, rest)) => match map.seek_child(*byte) {
+                Some(child) => find(child, rest),
+                None => None,
+            },
+            None => map.extra().as_ref(),
+        },
+        Tree::Wide(map) => match path.split_first() {
+            Some((byte, rest)) => match map.seek_child(*byte) {
+                Some(child) => find(child, rest),
+                None => None,
+            },
+            None => map.extra().as_ref(),
+        },
+        Tree::Full(map) => match path.split_first() {
             Some((byte, rest)) => match map.seek_child(*byte) {
                 Some(child) => find(child, rest),
                 None => None,
@@ -39,6 +58,26 @@ pub fn set(tree: &mut Tree, path: &[u8], new: u64) -> bool
             }
         }
         Tree::Inner(map) => match path.split_first() {
+            Some((byte, rest)) => match map.seek_child_mut(*byte) {
+                Some(child) => set(child, rest, new),
+                None => false,
+            },
+            None => {
+                *map.extra_mut() = Some(new);
+                true
+            }
+        },
+        Tree::Wide(map) => match path.split_first() {
+            Some((byte, rest)) => match map.seek_child_mut(*byte) {
+                Some(child) => set(child, rest, new),
+                None => false,
+            },
+            None => {
+                *map.extra_mut() = Some(new);
+                true
+            }
+        },
+        Tree::Full(map) => match path.split_first() {
             Some((byte, rest)) => match map.seek_child_mut(*byte) {
                 Some(child) => set(child, rest, new),
                 None => false,

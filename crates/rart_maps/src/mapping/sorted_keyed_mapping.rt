@@ -4,18 +4,19 @@ ghost use Rattle.std.specs.Prelude.{◌≡◌, ℕ, [], ◌∷◌, IfSome, Some,
 ghost use Rattle.std.specs.Prelude.{MatchOption, None, option_map};
 ghost use Rattle.std.specs.Iterator.{UpTo, YieldsFirst, YieldsFirstBy, item_count};
 ghost use Rattle.std.specs.Iterator.SizeHint.{IsWithinCount};
-ghost use Rattle.rart_parts.specs.Entries.{BytesAscend, IsLastUnder, child_at, entries_above};
+ghost use Rattle.rart_parts.specs.Entries.{BytesAscend, IsLastUnder, child_at, entries_above, sorted_entries};
 ghost use Rattle.rart_parts.specs.Errors.{IsMemory};
 ghost use Rattle.rart_maps.specs.Bounds.{bound_of};
 
 mod search;
 
-use crate::mapping::NodeMapping;
+use crate::mapping::{IndexedMapping, NodeMapping};
 use crate::mapping::sorted_keyed_mapping::search::{
     first_above, first_not_below, goes_last, keys_are_bytes, place_of,
 };
 use rart_block::Block;
 use rart_parts::TreeError;
+use rart_parts::utils::bitset::BitsetTrait;
 use std::alloc::Global;
 use std::iter::FusedIterator;
 use std::marker::Model;
@@ -80,6 +81,28 @@ impl<N, const W: usize> SortedKeyedMapping<N, W> {
         map.fill_from_resized(source);
         Ok(map)
     }
+
+    /// Moves the children of an indexed mapping into a new map.
+    ///
+    /// # Errors
+    ///
+    /// [`TreeError::Memory`] if the allocation fails. `source` is then unchanged.
+    pub fn from_indexed<const U: usize, B: BitsetTrait, F>(
+        alloc: Global,
+        source: &mut IndexedMapping<N, U, B, F>,
+    ) -> Result<Self, TreeError>
+        requires narrow { W ≤ 255 }
+        requires at_most { length (sorted_entries source.old.entries) ≤ W }
+        ensures ok { IfOk result (λ m. m.entries ≡ sorted_entries source.old.entries) }
+        ensures emptied { OnOk result (sorted_entries source.new.entries ≡ []) }
+        ensures extra { source.new.extra ≡ source.old.extra }
+        ensures memory { IfErr result IsMemory }
+        ensures unchanged { OnErr result (source.new ≡ source.old) }
+    {
+        let mut map = SortedKeyedMapping::new(alloc)?;
+        map.fill_from_indexed(source);
+        Ok(map)
+    }
 }
 
 impl<N, const W: usize, E> SortedKeyedMapping<N, W, E> {
@@ -123,6 +146,27 @@ impl<N, const W: usize, E> SortedKeyedMapping<N, W, E> {
         *self.block.keys_mut() = keys;
         *source.block.keys_mut() = unused;
         self.block.append(&mut source.block);
+    }
+
+    /// Moves the children of an indexed mapping into this empty map. It does not allocate.
+    pub fn fill_from_indexed<const U: usize, B: BitsetTrait, F>(
+        &mut self,
+        source: &mut IndexedMapping<N, U, B, F>,
+    )
+        requires empty { self.old.entries ≡ [] }
+        requires at_most { length (sorted_entries source.old.entries) ≤ W }
+        ensures filled { self.new.entries ≡ sorted_entries source.old.entries }
+        ensures emptied { sorted_entries source.new.entries ≡ [] }
+        ensures extra { self.new.extra ≡ self.old.extra }
+        ensures source_extra { source.new.extra ≡ source.old.extra }
+    {
+        // Its bytes ascend.
+        let _count = source.num_children();
+        // Removes the child alone: in a pair with its byte it would be moved twice more.
+        while let Some(key) = source.first_byte() {
+            let child = source.delete_child(key).unwrap();
+            self.add_child(key, child);
+        }
     }
 
     /// Returns the children with their bytes, ascending.

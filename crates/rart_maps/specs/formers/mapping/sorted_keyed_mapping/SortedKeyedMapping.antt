@@ -39,7 +39,7 @@ abbrev fields : ℕ → Type 0 → Former {0}
 fields W E = via (block.the_former this E (List ℕ) W) (λ X. Inside X W E) (λ X a. a.block)
     (λ X v. record { block = v }) (λ X a. refl) (λ X v. refl)
 
-zip-map : {X Y : Type 0} (h : X → Y) (ks : List ℕ) (vs : List X) → zip ks (map h vs) ≡ map (on_value h) (zip ks vs)
+pub zip-map : {X Y : Type 0} (h : X → Y) (ks : List ℕ) (vs : List X) → zip ks (map h vs) ≡ map (on_value h) (zip ks vs)
 zip-map h [] vs = refl
 zip-map h (k ∷ ks) [] = refl
 zip-map h (k ∷ ks) (v ∷ vs) = ap (λ l. (k, h v) ∷ l) (zip-map h ks vs)
@@ -93,7 +93,7 @@ back h w ks vs r e = record {
   padded = λ k l. e.padded k (subst (λ n. n ≤ k) (sym (length-map vs h)) l);
 }
 
-zip-held : (X : Type 0) (ks : List ℕ) (vs : List X) → length vs ≤ length ks → held (list (entry this)) X (zip ks vs)
+pub zip-held : (X : Type 0) (ks : List ℕ) (vs : List X) → length vs ≤ length ks → held (list (entry this)) X (zip ks vs)
     ≡ held (list this) X vs
 zip-held X [] [] e = refl
 zip-held X [] (v ∷ vs) e = absurd (omega arith)
