@@ -2,13 +2,13 @@
 use Rattle.std.proofs.Common.{◌≡◌, ◌≢◌, ℕ, zero, suc, ◌<◌, ◌≤◌, ◌+◌, true, false, cond, eqb, List, [], ◌∷◌, ◌++◌, Option}
 use Rattle.std.proofs.Common.{Some, None, length, map, get_or, set, replicate, sym, ap, ◌∙◌, refl, arith, ⊎_elim, subst}
 use Rattle.std.specs.List.{zip}
-use Rattle.std.proofs.lemmas.Bool.{eq-eqb, ne_eqb, cases_lt}
+use Rattle.std.proofs.lemmas.Bool.{eq-eqb, ne_eqb, cases_lt, lt-ltb, le-ltb}
 use Rattle.std.proofs.lemmas.Bool.Decides.{eqb_tells}
 use Rattle.std.proofs.lemmas.List.{length-set, length-append, length-replicate, get_or-set_same, get_or-set_other, map-set}
 use Rattle.std.proofs.lemmas.List.{get_or_past}
 use Rattle.std.proofs.Math.ListN.{get_or-append}
 use Rattle.rart_parts.specs.Entries.{child_at, with_entry, without_byte, replaced_at, sorted_entries, with_another}
-use Rattle.rart_parts.specs.Entries.{BytesAscend}
+use Rattle.rart_parts.specs.Entries.{BytesAscend, entries_above}
 use Rattle.rart_parts.specs.Indexed.{names, byte_of, with_bytes, by_slots, IsIndex}
 use Rattle.rart_parts.specs.Places.{is_used, numbered_values}
 use Rattle.rart_parts.proofs.entries.EntryLemmas.{same_lookups, child_at-with_entry, child_at-without_byte}
@@ -18,7 +18,8 @@ use Rattle.rart_parts.proofs.PlaceLemmas.{used_place}
 use Rattle.rart_parts.proofs.maps.IndexLemmas.{indexed_none, indexed_some, map_of_ascends, by_index}
 use Rattle.rart_parts.proofs.maps.IndexWalk.{walk_is}
 use Rattle.rart_parts.proofs.maps.Zipped.{length_zipped}
-use Rattle.rart_maps.specs.Dense.{IsDense, filled}
+use Rattle.rart_maps.specs.Contents.{Contents}
+use Rattle.rart_maps.specs.Dense.{IsDense, AreSlotsBelow, filled}
 
 none_some : {X : Type 0} {x : X} → None ≡ Some x → ⊥
 none_some h = cc
@@ -93,6 +94,46 @@ bytes_zip at p (k ∷ ks) (v ∷ vs) h e =
     λ i. (first i, v) ∷ bytes_zip at (suc p) ks vs (omega arith)
     (λ r l. (let next : suc p + r ≡ p + suc r = omega arith in ap (byte_of at) next) ∙ e (suc r) (omega arith)) i
 
+-- the slots of an index
+slots_below : (m n : ℕ) (at : List (Option ℕ)) → ((k p : ℕ) → get_or at k None ≡ Some p → p < m)
+    → AreSlotsBelow m (numbered_values n at)
+slots_below m n [] h = tt
+slots_below m n (None ∷ at) h = slots_below m (suc n) at (λ k p e. h (suc k) p e)
+slots_below m n (Some q ∷ at) h = (h 0 q refl, slots_below m (suc n) at (λ k p e. h (suc k) p e))
+
+pub slots_below-above : (m k : ℕ) (es : List (ℕ × ℕ)) → AreSlotsBelow m es → AreSlotsBelow m (entries_above k es)
+slots_below-above m k [] h = tt
+slots_below-above m k (e ∷ es) h = ⊎_elim
+    (λ l. subst (AreSlotsBelow m) (sym (ap (λ b. cond b (e ∷ entries_above k es) (entries_above k es)) (lt-ltb k e.0 l)))
+    (h.0, slots_below-above m k es h.1))
+    (λ l. subst (AreSlotsBelow m) (sym (ap (λ b. cond b (e ∷ entries_above k es) (entries_above k es)) (le-ltb k e.0 l)))
+    (slots_below-above m k es h.1))
+    (cases_lt k e.0)
+
+-- an index without slots
+nowhere : (n k : ℕ) (d : Option ℕ) → d ≡ None → get_or (replicate n None) k d ≡ None
+nowhere zero k d e = e
+nowhere (suc n) zero d e = refl
+nowhere (suc n) (suc k) d e = nowhere n k d e
+
+pub dense_start : (X : Type 0) (width : ℕ) → width ≤ 255
+    → IsDense {X = X} width (replicate 256 None) (replicate width 0) []
+dense_start X width narrow = record {
+  whole = length-replicate {A = Option ℕ} 256 None;
+  full = length-replicate width 0;
+  narrow = narrow;
+  few = omega arith;
+  has_child = λ k p e. absurd (none_some (sym (nowhere 256 k None refl) ∙ e));
+  has_byte = λ k p e. absurd (none_some (sym (nowhere 256 k None refl) ∙ e));
+  is_named = λ p l. absurd (omega (arith, l));
+}
+
+pub nothing_yet : (X : Type 0) {E : Type 0} (e : E) (ks : List ℕ)
+    → (let new : Contents X E = record { extra = e; entries = zip ks [] } in
+    let none : Contents X E = record { extra = e; entries = [] } in new ≡ none)
+nothing_yet X e [] = refl
+nothing_yet X e (k ∷ ks) = refl
+
 -- an entry of an index after a write
 pub read_set : (at : List (Option ℕ)) (i j : ℕ) (o : Option ℕ) → i < length at
     → get_or (set at i o) j None ≡ cond (eqb i j) o (get_or at j None)
@@ -154,6 +195,9 @@ module _ {X : Type 0} {width : ℕ} {at : List (Option ℕ)} {bs : List ℕ} {vs
 
   pub dense_count : length (sorted_entries (zip bs vs)) ≡ length vs
   dense_count = length-sorted (zip bs vs) ∙ length_zipped bs vs fits
+
+  pub dense_slots : AreSlotsBelow (length vs) (numbered_values 0 at)
+  dense_slots = slots_below (length vs) 0 at d.has_child
 
   pub byte_within : (k p : ℕ) → get_or at k None ≡ Some p → k < length at
   byte_within k p e = ⊎_elim (λ l. l) (λ l. absurd (none_some (sym (get_or_past at k None l) ∙ e)))

@@ -91,7 +91,7 @@ module _ {X : Type 0} {width : ℕ} {at : List (Option ℕ)} {bs : List ℕ} {vs
     abbrev at' : List (Option ℕ)
     at' = set (set at k None) bl (Some p)
 
-    lower : p < n
+    pub lower : p < n
     lower = omega (arith, d.has_child k p named, all, other)
 
     named_last : get_or at bl None ≡ Some n

@@ -35,21 +35,22 @@ pub struct DirectMapping<N, E = ()> {
 }
 
 impl<N, E> Model for DirectMapping<N, E> {
-    ghost use Rattle.rart_parts.specs.Places.{numbered_values};
+    ghost use Rattle.rart_parts.specs.Bits.{words_have};
+    ghost use Rattle.rart_parts.specs.Direct.{IsDirect};
+    ghost use Rattle.rart_parts.specs.Places.{Agrees, numbered_values};
     ghost use Rattle.rart_maps.specs.Contents.{Contents, contents_code};
 
     ghost Value = { Contents N E };
 
     ghost coded = { contents_code N.code E.code };
 
-    ghost use Rattle.rart_maps.specs.Direct.{IsDirect};
-
     ghost view = { λ m. record {
       extra = m.block.head;
       entries = numbered_values 0 m.block.items;
     } };
 
-    ghost invariant = { λ m. IsDirect m.block.keys.bytes.words m.block.keys.count m.block.items };
+    ghost invariant = { λ m. IsDirect m.block.items m.block.keys.count
+        × Agrees 256 (words_have 64 (λ w. w) m.block.keys.bytes.words) m.block.items };
 }
 
 impl<N> DirectMapping<N> {
@@ -114,6 +115,7 @@ impl<N, E> DirectMapping<N, E> {
     }
 
     /// Returns the extra value.
+    #[inline(always)]
     pub fn extra(&self) -> &E
         ensures { result.now ≡ self.now.extra }
     {
@@ -121,6 +123,7 @@ impl<N, E> DirectMapping<N, E> {
     }
 
     /// Returns the children with their bytes, ascending.
+    #[inline(always)]
     pub fn iter(&self) -> DirectMappingIter<'_, N>
         ensures entries { result ≡ self.now.entries }
         ensures ascending { BytesAscend self.now.entries }
@@ -132,6 +135,7 @@ impl<N, E> DirectMapping<N, E> {
     }
 
     /// Returns the children at the bytes above `byte`, ascending.
+    #[inline(always)]
     pub fn iter_above(&self, byte: u8) -> DirectMappingIter<'_, N>
         ensures entries { result ≡ entries_above byte self.now.entries }
         ensures ascending { BytesAscend (entries_above byte self.now.entries) }
@@ -212,6 +216,7 @@ impl<N, E> NodeMapping<N, 256> for DirectMapping<N, E> {
 
     ghost same_extra = { λ m n. n.extra ≡ m.extra };
 
+    #[inline(always)]
     fn add_child(&mut self, key: u8, node: N) {
         let used = self.block.keys_mut();
         used.bytes.set(key as usize);
@@ -219,10 +224,12 @@ impl<N, E> NodeMapping<N, 256> for DirectMapping<N, E> {
         fill_place(self.block.item_mut(key as usize), node);
     }
 
+    #[inline(always)]
     fn seek_child(&self, key: u8) -> Option<&N> {
         self.block.as_slice()[key as usize].as_ref()
     }
 
+    #[inline(always)]
     fn seek_child_mut(&mut self, key: u8) -> Option<&mut N> {
         if self.block.as_slice()[key as usize].is_some() {
             self.block.item_mut(key as usize).as_mut()
@@ -231,6 +238,7 @@ impl<N, E> NodeMapping<N, 256> for DirectMapping<N, E> {
         }
     }
 
+    #[inline(always)]
     fn delete_child(&mut self, key: u8) -> Option<N> {
         let Some(child) = self.block.item_mut(key as usize).take() else {
             return None;
@@ -241,6 +249,7 @@ impl<N, E> NodeMapping<N, 256> for DirectMapping<N, E> {
         Some(child)
     }
 
+    #[inline(always)]
     fn num_children(&self) -> usize {
         self.block.keys().count
     }
@@ -251,6 +260,7 @@ impl<N, E> DirectMapping<N, E> {
     ghost use Rattle.rart_maps.specs.Loans.{lends_direct_extra};
 
     /// Returns a mutable borrow of the extra value.
+    #[inline(always)]
     pub fn extra_mut(&mut self) -> &mut E
         ensures* writes_back { sem 𝓛 (lends_direct_extra N.row E.row self.entry result) }
         ensures value { result.now ≡ self.old.extra }
@@ -336,6 +346,7 @@ impl<'a, N> Iterator for DirectMappingIter<'a, N> {
 
     ghost remaining = { item_count (λ rest. rest) };
 
+    #[inline(always)]
     fn next(&mut self) -> Option<(u8, &'a N)> {
         while let Some(byte) = self.bytes.next() {
             if let Some(Some(child)) = self.places.get(byte) {

@@ -140,6 +140,7 @@ impl<N, const W: usize, B: BitsetTrait, E> IndexedMapping<N, W, B, E> {
     }
 
     /// Returns the extra value.
+    #[inline(always)]
     pub fn extra(&self) -> &E
         ensures { result.now ≡ self.now.extra }
     {
@@ -212,6 +213,7 @@ impl<N, const W: usize, B: BitsetTrait, E> IndexedMapping<N, W, B, E> {
     }
 
     /// Returns the children with their bytes, ascending.
+    #[inline(always)]
     pub fn iter(&self) -> IndexedMappingIter<'_, N>
         ensures entries { result ≡ sorted_entries self.now.entries }
         ensures ascending { BytesAscend (sorted_entries self.now.entries) }
@@ -223,6 +225,7 @@ impl<N, const W: usize, B: BitsetTrait, E> IndexedMapping<N, W, B, E> {
     }
 
     /// Returns the children at the bytes above `byte`, ascending. The index skips the other bytes.
+    #[inline(always)]
     pub fn iter_above(&self, byte: u8) -> IndexedMappingIter<'_, N>
         ensures entries { result ≡ entries_above byte (sorted_entries self.now.entries) }
         ensures ascending { BytesAscend (entries_above byte (sorted_entries self.now.entries)) }
@@ -255,6 +258,7 @@ impl<N, const W: usize, B: BitsetTrait, E> NodeMapping<N, W> for IndexedMapping<
 
     ghost same_extra = { λ m n. n.extra ≡ m.extra };
 
+    #[inline(always)]
     fn add_child(&mut self, key: u8, node: N) {
         let slot = self.block.len();
         let slots = self.block.keys_mut();
@@ -263,6 +267,7 @@ impl<N, const W: usize, B: BitsetTrait, E> NodeMapping<N, W> for IndexedMapping<
         self.block.push(node);
     }
 
+    #[inline(always)]
     fn seek_child(&self, key: u8) -> Option<&N> {
         match self.block.keys().index.get(key) {
             Some(slot) => Some(&self.block.as_slice()[slot as usize]),
@@ -270,6 +275,7 @@ impl<N, const W: usize, B: BitsetTrait, E> NodeMapping<N, W> for IndexedMapping<
         }
     }
 
+    #[inline(always)]
     fn seek_child_mut(&mut self, key: u8) -> Option<&mut N> {
         match self.block.keys().index.get(key) {
             Some(slot) => Some(self.block.item_mut(slot as usize)),
@@ -277,6 +283,7 @@ impl<N, const W: usize, B: BitsetTrait, E> NodeMapping<N, W> for IndexedMapping<
         }
     }
 
+    #[inline(always)]
     fn delete_child(&mut self, key: u8) -> Option<N> {
         let Some(slot) = self.block.keys().index.get(key) else {
             return None;
@@ -294,6 +301,7 @@ impl<N, const W: usize, B: BitsetTrait, E> NodeMapping<N, W> for IndexedMapping<
         Some(mem::replace(self.block.item_mut(slot as usize), last))
     }
 
+    #[inline(always)]
     fn num_children(&self) -> usize {
         let _slots = self.block.keys();
         self.block.len()
@@ -305,6 +313,7 @@ impl<N, const W: usize, B: BitsetTrait, E> IndexedMapping<N, W, B, E> {
     ghost use Rattle.rart_maps.specs.Loans.{lends_indexed_extra};
 
     /// Returns a mutable borrow of the extra value.
+    #[inline(always)]
     pub fn extra_mut(&mut self) -> &mut E
         ensures* writes_back { sem 𝓛 (lends_indexed_extra N.row W.row B.row E.row B.BitsetTrait self.entry result) }
         ensures value { result.now ≡ self.old.extra }
@@ -354,6 +363,7 @@ impl<'a, N> Iterator for IndexedMappingIter<'a, N> {
 
     ghost remaining = { item_count (λ rest. rest) };
 
+    #[inline(always)]
     fn next(&mut self) -> Option<(u8, &'a N)> {
         match self.slots.next() {
             Some((byte, slot)) => Some((byte, &self.children[slot as usize])),

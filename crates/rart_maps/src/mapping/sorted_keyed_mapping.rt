@@ -124,6 +124,7 @@ impl<N, const W: usize, E> SortedKeyedMapping<N, W, E> {
     }
 
     /// Returns the extra value.
+    #[inline(always)]
     pub fn extra(&self) -> &E
         ensures { result.now ≡ self.now.extra }
     {
@@ -170,6 +171,7 @@ impl<N, const W: usize, E> SortedKeyedMapping<N, W, E> {
     }
 
     /// Returns the children with their bytes, ascending.
+    #[inline(always)]
     pub fn iter(&self) -> SortedKeyedMappingIter<'_, N>
         ensures entries { result ≡ self.now.entries }
         ensures ascending { BytesAscend self.now.entries }
@@ -181,6 +183,7 @@ impl<N, const W: usize, E> SortedKeyedMapping<N, W, E> {
     }
 
     /// Returns the children at the bytes above `byte`, ascending. It starts at the first of them.
+    #[inline(always)]
     pub fn iter_above(&self, byte: u8) -> SortedKeyedMappingIter<'_, N>
         ensures entries { result ≡ entries_above byte self.now.entries }
         ensures ascending { BytesAscend (entries_above byte self.now.entries) }
@@ -257,6 +260,7 @@ impl<N, const W: usize, E> NodeMapping<N, W> for SortedKeyedMapping<N, W, E> {
 
     ghost same_extra = { λ m n. n.extra ≡ m.extra };
 
+    #[inline(always)]
     fn add_child(&mut self, key: u8, node: N) {
         let count = self.block.len();
         // Bulk loads and sorted insertions add each child so, without a search.
@@ -272,6 +276,7 @@ impl<N, const W: usize, E> NodeMapping<N, W> for SortedKeyedMapping<N, W, E> {
         self.block.insert(at, node);
     }
 
+    #[inline(always)]
     fn seek_child(&self, key: u8) -> Option<&N> {
         match place_of(key, self.block.keys(), self.block.len()) {
             Some(at) => Some(&self.block.as_slice()[at]),
@@ -279,6 +284,7 @@ impl<N, const W: usize, E> NodeMapping<N, W> for SortedKeyedMapping<N, W, E> {
         }
     }
 
+    #[inline(always)]
     fn seek_child_mut(&mut self, key: u8) -> Option<&mut N> {
         match place_of(key, self.block.keys(), self.block.len()) {
             Some(at) => Some(self.block.item_mut(at)),
@@ -286,6 +292,7 @@ impl<N, const W: usize, E> NodeMapping<N, W> for SortedKeyedMapping<N, W, E> {
         }
     }
 
+    #[inline(always)]
     fn delete_child(&mut self, key: u8) -> Option<N> {
         let count = self.block.len();
         match place_of(key, self.block.keys(), count) {
@@ -299,6 +306,7 @@ impl<N, const W: usize, E> NodeMapping<N, W> for SortedKeyedMapping<N, W, E> {
         }
     }
 
+    #[inline(always)]
     fn num_children(&self) -> usize {
         keys_are_bytes(self.block.keys());
         self.block.len()
@@ -310,6 +318,7 @@ impl<N, const W: usize, E> SortedKeyedMapping<N, W, E> {
     ghost use Rattle.rart_maps.specs.Loans.{lends_sorted_extra};
 
     /// Returns a mutable borrow of the extra value.
+    #[inline(always)]
     pub fn extra_mut(&mut self) -> &mut E
         ensures* writes_back { sem 𝓛 (lends_sorted_extra N.row W.row E.row self.entry result) }
         ensures value { result.now ≡ self.old.extra }
@@ -359,6 +368,7 @@ impl<'a, N> Iterator for SortedKeyedMappingIter<'a, N> {
 
     ghost remaining = { item_count (λ rest. rest) };
 
+    #[inline(always)]
     fn next(&mut self) -> Option<(u8, &'a N)> {
         match (self.keys.split_first(), self.children.split_first()) {
             (Some((key, keys)), Some((child, children))) => {

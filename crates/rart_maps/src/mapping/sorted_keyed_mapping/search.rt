@@ -5,6 +5,7 @@ ghost use Rattle.rart_parts.specs.SortedKeyed.{IsPadded};
 ghost use Rattle.rart_maps.specs.Bounds.{IsFirstNotBelow, bound_of};
 
 /// Returns the place of a key among the first `count`, which ascend, where the others are 255.
+#[inline(always)]
 pub(super) fn place_of<const W: usize>(key: u8, keys: &[u8; W], count: usize) -> Option<usize>
     requires at_most { count ≤ W }
     requires ascending { IsAscendingBelow keys.now count }
@@ -20,6 +21,7 @@ pub(super) fn place_of<const W: usize>(key: u8, keys: &[u8; W], count: usize) ->
 }
 
 /// Returns whether no key of the first `count`, which ascend, is above `key`.
+#[inline(always)]
 pub(super) fn goes_last<const W: usize>(key: u8, keys: &[u8; W], count: usize) -> bool
     requires at_most { count ≤ W }
     requires ascending { IsAscendingBelow keys.now count }
@@ -30,6 +32,7 @@ pub(super) fn goes_last<const W: usize>(key: u8, keys: &[u8; W], count: usize) -
 
 /// Returns the first place among the first `count` keys, which ascend, whose key is above; `count` where there is none.
 // The other keys are 255, so it is found without a branch: as many keys of all are not above.
+#[inline(always)]
 pub(super) fn first_above<const W: usize>(key: u8, keys: &[u8; W], count: usize) -> usize
     requires at_most { count ≤ W }
     requires ascending { IsAscendingBelow keys.now count }
@@ -48,6 +51,7 @@ pub(super) fn first_above<const W: usize>(key: u8, keys: &[u8; W], count: usize)
 
 /// Returns the first place among the first `count` keys, which ascend, whose key is not below `above`; `count` where
 /// there is none. No key is at or above `None`.
+#[inline(always)]
 pub(super) fn first_not_below<const W: usize>(
     above: Option<u8>,
     keys: &[u8; W],

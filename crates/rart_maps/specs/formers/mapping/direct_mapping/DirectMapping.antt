@@ -17,10 +17,11 @@ use Rattle.std.specs.contracts.option.Option as option
 use Rattle.rart_parts.specs.formers.utils.bitarray.BitArray as places
 use Rattle.rart_parts.specs.formers.utils.bitarray.BitArray.{place}
 use Rattle.rart_parts.specs.EntryShapes.{entry, on_value}
-use Rattle.rart_parts.specs.Places.{numbered_values}
+use Rattle.rart_parts.specs.Bits.{words_have}
+use Rattle.rart_parts.specs.Direct.{IsDirect}
+use Rattle.rart_parts.specs.Places.{Agrees, numbered_values}
 use Rattle.rart_block.specs.formers.block.Block as block
 use Rattle.rart_maps.specs.Contents.{Contents}
-use Rattle.rart_maps.specs.Direct.{IsDirect}
 use Rattle.rart_maps.specs.formers.mapping.sorted_keyed_mapping.SortedKeyedMapping as sorted
 use Rattle.rart_maps.specs.declared.mapping.direct_mapping.Used.{Used}
 use Rattle.rart_maps.specs.contracts.mapping.direct_mapping.Used as used
@@ -60,12 +61,14 @@ numbered-held X n (Some x ∷ os) = λ i. (
   (x, (numbered-held X (suc n) os i).1),
 )
 
-IsDirect-prop : {X : Type 0} (ws : List ℕ) (n : ℕ) (os : List (Option X)) → IsProp (IsDirect ws n os)
-IsDirect-prop ws n os = λ x y i. record {
-  full = ℕ_set _ _ x.full y.full i;
-  counted = ℕ_set _ _ x.counted y.counted i;
-  agrees = λ k h. Coded-set coded_bool _ _ (x.agrees k h) (y.agrees k h) i;
-}
+abbrev AreSet : {X : Type 0} → List ℕ → List (Option X) → Type 0
+AreSet ws os = Agrees 256 (words_have 64 (λ w. w) ws) os
+
+direct-prop : {X : Type 0} (ws : List ℕ) (n : ℕ) (os : List (Option X)) → IsProp (IsDirect os n × AreSet ws os)
+direct-prop ws n os = λ x y i. (
+  record { full = ℕ_set _ _ x.0.full y.0.full i; counted = ℕ_set _ _ x.0.counted y.0.counted i },
+  λ k h. Coded-set coded_bool _ _ (x.1 k h) (y.1 k h) i,
+)
 
 module _ {X Y : Type 0} (h : X → Y) (ws : List ℕ) (n : ℕ) (os : List (Option X)) where
   abbrev moved : List (Option Y)
@@ -74,19 +77,17 @@ module _ {X Y : Type 0} (h : X → Y) (ws : List ℕ) (n : ℕ) (os : List (Opti
   same_count : length (numbered_values 0 moved) ≡ length (numbered_values 0 os)
   same_count = ap length (numbered-map h 0 os) ∙ length-map (numbered_values 0 os) (on_value h)
 
-  along : IsDirect ws n os → IsDirect ws n moved
-  along e = record {
-    full = length-map os ((place this).map X Y h) ∙ e.full;
-    counted = e.counted ∙ sym same_count;
-    agrees = λ k l. e.agrees k l ∙ sym (places.used_along h os k);
-  }
+  along : IsDirect os n × AreSet ws os → IsDirect moved n × AreSet ws moved
+  along e = (
+    record { full = length-map os ((place this).map X Y h) ∙ e.0.full; counted = e.0.counted ∙ sym same_count },
+    λ k l. e.1 k l ∙ sym (places.used_along h os k),
+  )
 
-  back : IsDirect ws n moved → IsDirect ws n os
-  back e = record {
-    full = sym (length-map os ((place this).map X Y h)) ∙ e.full;
-    counted = e.counted ∙ same_count;
-    agrees = λ k l. e.agrees k l ∙ places.used_along h os k;
-  }
+  back : IsDirect moved n × AreSet ws moved → IsDirect os n × AreSet ws os
+  back e = (
+    record { full = sym (length-map os ((place this).map X Y h)) ∙ e.0.full; counted = e.0.counted ∙ same_count },
+    λ k l. e.1 k l ∙ places.used_along h os k,
+  )
 
 module _ (E : RattleType) (R R' : RattleType) (h : R.Denot → R'.Denot) where
   abbrev former : Former {0}
@@ -97,7 +98,7 @@ module _ (E : RattleType) (R R' : RattleType) (h : R.Denot → R'.Denot) where
       (λ X Y k u. ap (λ es. record { extra = u.block.head; entries = es }) (numbered-map k 0 u.block.items))
       (λ X u. numbered-held X 0 u.block.items)
       R.Denot R'.Denot h (C.the_row R E).coded (C.the_row R' E).coded
-      (invariant R.Denot E.Denot) (invariant R'.Denot E.Denot) (λ u. IsDirect-prop _ _ _) (λ u. IsDirect-prop _ _ _)
+      (invariant R.Denot E.Denot) (invariant R'.Denot E.Denot) (λ u. direct-prop _ _ _) (λ u. direct-prop _ _ _)
       (λ u e. along h u.block.keys.bytes.words u.block.keys.count u.block.items e)
       (λ u e. back h u.block.keys.bytes.words u.block.keys.count u.block.items e)
       (over (I.the_row R E)) (over (I.the_row R' E))
