@@ -327,8 +327,7 @@ pub struct DirectMappingIter<'a, N> {
 impl<'a, N> Model for DirectMappingIter<'a, N> {
     ghost use Rattle.std.specs.Prelude.{ℕ, List, length};
     ghost use Rattle.std.specs.Coded.{coded_list, coded×, coded_ℕ};
-    ghost use Rattle.rart_parts.specs.ByteIndex.{AreBytes};
-    ghost use Rattle.rart_maps.specs.Direct.{in_places};
+    ghost use Rattle.rart_maps.specs.Direct.{AreFilled, in_places};
 
     ghost Value = { List (ℕ × N) };
 
@@ -336,7 +335,7 @@ impl<'a, N> Model for DirectMappingIter<'a, N> {
 
     ghost view = { λ it. in_places it.bytes it.places.now };
 
-    ghost invariant = { λ it. AreBytes it.bytes };
+    ghost invariant = { λ it. AreFilled it.places.now it.bytes };
 }
 
 impl<'a, N> Iterator for DirectMappingIter<'a, N> {
@@ -348,12 +347,13 @@ impl<'a, N> Iterator for DirectMappingIter<'a, N> {
 
     #[inline(always)]
     fn next(&mut self) -> Option<(u8, &'a N)> {
-        while let Some(byte) = self.bytes.next() {
-            if let Some(Some(child)) = self.places.get(byte) {
-                return Some((byte as u8, child));
-            }
+        let Some(byte) = self.bytes.next() else {
+            return None;
+        };
+        if let Some(Some(child)) = self.places.get(byte) {
+            return Some((byte as u8, child));
         }
-        None
+        unreachable!()
     }
 }
 

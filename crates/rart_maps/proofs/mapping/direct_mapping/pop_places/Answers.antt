@@ -1,17 +1,17 @@
-use Rattle.std.proofs.Common.{rules, ◌≡◌, ℕ, [], ◌∷◌, IfSome, IsSome, Some, ◌<◌, ◌≤◌, length, IfErr, IfOk, None, OnOk, OnErr, MatchOption, option_map, replicate, ◌+◌, ◌-◌, ◌*◌, ◌/◌, ◌%◌, Bool, true, false, nat_eq, nat_lt, List, ◌++◌, slice_index_or, slice_set, bit_and, bit_or, Fits, w8, w32, w64, Bor, MutBor}
-use Rattle.std.specs.Iterator.{UpTo, YieldsFirst, YieldsFirstBy, item_count}
-use Rattle.std.specs.Iterator.SizeHint.{IsWithinCount}
-use Rattle.rart_parts.specs.Entries.{BytesAscend, IsLastUnder, sorted_entries, child_at, entries_above}
-use Rattle.rart_parts.specs.Errors.{IsMemory}
-use Rattle.rart_maps.specs.Bounds.{bound_of}
+use Rattle.std.proofs.Common.{◌∙◌, ◌++◌, ◌∷◌, [], sym, ap}
 use Rattle.rart_block.specs.Contents.{with_items}
-use Rattle.rart_parts.specs.Places.{values_in}
+use Rattle.rart_parts.proofs.FreedLemmas.{last_valueless, rest_valueless}
 use Rattle.rart_maps.proofs.mapping.direct_mapping.pop_places.Goals as goal
 
--- src/mapping/direct_mapping.rt:303:24
 pub unreachable-requires : goal.unreachable-requires
-unreachable-requires g c = ?
+unreachable-requires g c = last_valueless c.loop-place.block.items c.pop.new.self.items c.in-Some-place.field-0
+    (ap (λ b. b.items) c.in-Some.ensures ∙ ap (λ o. c.pop.new.self.items ++ o ∷ []) c.in-Some-place.is)
+    c.loop-place.invariant.0
 
--- src/mapping/direct_mapping.rt:301:5
 pub loop-place-preserved : goal.loop-place-preserved
-loop-place-preserved g c = ?
+loop-place-preserved g c = (
+  rest_valueless c.loop-place.block.items c.pop.new.self.items
+      (ap (λ b. b.items) c.in-Some.ensures ∙ ap (λ o. c.pop.new.self.items ++ o ∷ []) c.in-None.is)
+      c.loop-place.invariant.0,
+  sym (ap (λ b. with_items b []) c.in-Some.ensures) ∙ c.loop-place.invariant.1,
+)

@@ -1,13 +1,7 @@
-use Rattle.std.proofs.Common.{rules, ◌≡◌, ℕ, [], ◌∷◌, IfSome, IsSome, Some, ◌<◌, ◌≤◌, length, IfErr, IfOk, None, OnOk, OnErr, MatchOption, option_map, replicate, ◌+◌, ◌-◌, ◌*◌, ◌/◌, ◌%◌, Bool, true, false, nat_eq, nat_lt, List, ◌++◌, slice_index_or, slice_set, bit_and, bit_or, Fits, w8, w32, w64, Bor, MutBor}
-use Rattle.std.specs.Iterator.{UpTo, YieldsFirst, YieldsFirstBy, item_count}
-use Rattle.std.specs.Iterator.SizeHint.{IsWithinCount}
-use Rattle.rart_parts.specs.Entries.{BytesAscend, IsLastUnder, sorted_entries, child_at, entries_above}
-use Rattle.rart_parts.specs.Errors.{IsMemory}
-use Rattle.rart_maps.specs.Bounds.{bound_of}
-use Rattle.rart_block.specs.Contents.{with_items}
-use Rattle.rart_parts.specs.Places.{values_in}
+use Rattle.std.proofs.Common.{◌∙◌, ap}
+use Rattle.rart_parts.proofs.FreedLemmas.{numbered_valueless}
 use Rattle.rart_maps.proofs.mapping.direct_mapping.DirectMapping.destroy_empty.Goals as goal
 
--- src/mapping/direct_mapping.rt:280:9
 pub pop_places-requires : goal.pop_places-requires
-pop_places-requires g c = ?
+pop_places-requires g c = numbered_valueless 0 c.self.inside.block.items
+    (ap (λ d. d.entries) c.self.view_is ∙ c.requires)

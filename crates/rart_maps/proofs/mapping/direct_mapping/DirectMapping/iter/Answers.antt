@@ -1,21 +1,18 @@
-use Rattle.std.proofs.Common.{rules, ◌≡◌, ℕ, [], ◌∷◌, IfSome, IsSome, Some, ◌<◌, ◌≤◌, length, IfErr, IfOk, None, OnOk, OnErr, MatchOption, option_map, replicate, ◌+◌, ◌-◌, ◌*◌, ◌/◌, ◌%◌, Bool, true, false, nat_eq, nat_lt, List, ◌++◌, slice_index_or, slice_set, bit_and, bit_or, Fits, w8, w32, w64, Bor, MutBor}
-use Rattle.std.specs.Iterator.{UpTo, YieldsFirst, YieldsFirstBy, item_count}
-use Rattle.std.specs.Iterator.SizeHint.{IsWithinCount}
-use Rattle.rart_parts.specs.Entries.{BytesAscend, IsLastUnder, sorted_entries, child_at, entries_above}
-use Rattle.rart_parts.specs.Errors.{IsMemory}
-use Rattle.rart_maps.specs.Bounds.{bound_of}
-use Rattle.rart_block.specs.Contents.{with_items}
-use Rattle.rart_parts.specs.Places.{values_in}
+use Rattle.std.proofs.Common.{◌∙◌, ap, subst}
+use Rattle.rart_parts.specs.Entries.{BytesAscend}
+use Rattle.rart_parts.proofs.maps.DirectLemmas.{numbered-ascends}
+use Rattle.rart_maps.proofs.DirectPlaces.{all_filled, walk_all}
 use Rattle.rart_maps.proofs.mapping.direct_mapping.DirectMapping.iter.Goals as goal
 
--- src/mapping/direct_mapping.rt:126:5
 pub invariant_of-result : goal.invariant_of-result
-invariant_of-result g c = ?
+invariant_of-result g c = rw (c.as_slice.ensures, c.iter.ensures, c.keys.ensures)
+    (all_filled c.self.inside.block.keys.bytes.words c.self.inside.block.items c.self.invariant.0.full c.self.invariant.1)
 
--- src/mapping/direct_mapping.rt:126:5
 pub returns-clause-entries : goal.returns-clause-entries
-returns-clause-entries g c = ?
+returns-clause-entries g c = rw (c.as_slice.ensures, c.iter.ensures, c.keys.ensures)
+    (walk_all c.self.inside.block.keys.bytes.words c.self.inside.block.items c.self.invariant.0.full c.self.invariant.1
+    ∙ ap (λ d. d.entries) c.self.view_is)
 
--- src/mapping/direct_mapping.rt:126:5
 pub returns-clause-ascending : goal.returns-clause-ascending
-returns-clause-ascending g c = ?
+returns-clause-ascending g c = subst (λ d. BytesAscend d.entries) c.self.view_is
+    (numbered-ascends 0 c.self.inside.block.items)

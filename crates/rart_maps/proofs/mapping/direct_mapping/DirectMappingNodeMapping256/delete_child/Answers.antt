@@ -1,33 +1,50 @@
-use Rattle.std.proofs.Common.{rules, ◌≡◌, ℕ, [], ◌∷◌, IfSome, IsSome, Some, ◌<◌, ◌≤◌, length, IfErr, IfOk, None, OnOk, OnErr, MatchOption, option_map, replicate, ◌+◌, ◌-◌, ◌*◌, ◌/◌, ◌%◌, Bool, true, false, nat_eq, nat_lt, List, ◌++◌, slice_index_or, slice_set, bit_and, bit_or, Fits, w8, w32, w64, Bor, MutBor}
-use Rattle.std.specs.Iterator.{UpTo, YieldsFirst, YieldsFirstBy, item_count}
-use Rattle.std.specs.Iterator.SizeHint.{IsWithinCount}
-use Rattle.rart_parts.specs.Entries.{BytesAscend, IsLastUnder, sorted_entries, child_at, entries_above}
-use Rattle.rart_parts.specs.Errors.{IsMemory}
-use Rattle.rart_maps.specs.Bounds.{bound_of}
-use Rattle.rart_block.specs.Contents.{with_items}
-use Rattle.rart_parts.specs.Places.{values_in}
+use Rattle.std.proofs.Common.{◌≡◌, None, Some, get_or, sym, ap, ◌∙◌, arith}
+use Rattle.rart_parts.specs.Entries.{child_at, without_byte}
+use Rattle.rart_parts.proofs.maps.DirectLemmas.{numbered_child, numbered-taken, direct_taken, direct_without, place_reads}
+use Rattle.rart_maps.proofs.DirectPlaces.{agrees_taken}
 use Rattle.rart_maps.proofs.mapping.direct_mapping.DirectMappingNodeMapping256.delete_child.Goals as goal
 
--- src/mapping/direct_mapping.rt:244:13
 pub returns-in_default-clause-taken : goal.returns-in_default-clause-taken
-returns-in_default-clause-taken g c = ?
+returns-in_default-clause-taken g c =
+    let now = place_reads c.self.inside.block.items c.args.key c.item_mut.result.now None
+    (omega (arith, c.ranges.key.fits, c.self.invariant.0.full)) c.item_mut.ensures.value in
+    c.in_default.ensures.value ∙ sym now ∙ sym (numbered_child c.self.inside.block.items c.args.key)
+    ∙ ap (λ d. child_at c.args.key d.entries) c.self.view_is
 
--- src/mapping/direct_mapping.rt:244:13
 pub returns-in_default-clause-rest : goal.returns-in_default-clause-rest
-returns-in_default-clause-rest g c = ?
+returns-in_default-clause-rest g c = rw c.in_default.ensures.after
+    (numbered-taken c.self.inside.block.items c.args.key (omega (arith, c.ranges.key.fits, c.self.invariant.0.full))
+    ∙ ap (λ d. without_byte c.args.key d.entries) c.self.view_is)
 
--- src/mapping/direct_mapping.rt:248:9
 pub overflow_sub-used : goal.overflow_sub-used
-overflow_sub-used g c = ?
+overflow_sub-used g c =
+    let now : get_or c.self.inside.block.items c.args.key None ≡ Some c.in-Some.child = place_reads c.self.inside.block.items c.args.key c.item_mut.result.now None
+    (omega (arith, c.ranges.key.fits, c.self.invariant.0.full)) c.item_mut.ensures.value ∙ sym c.in-Some.ensures.value in
+    omega (
+      arith,
+      ap (λ u. u.count) c.keys_mut-used.ensures.value,
+      direct_taken c.self.invariant.0 c.args.key (omega (arith, c.ranges.key.fits)) c.in-Some.child now,
+    )
 
--- src/mapping/direct_mapping.rt:241:5
 pub invariant_of-self-2 : goal.invariant_of-self-2
-invariant_of-self-2 g c = ?
+invariant_of-self-2 g c =
+    let now : get_or c.self.inside.block.items c.args.key None ≡ Some c.in-Some.child = place_reads c.self.inside.block.items c.args.key c.item_mut.result.now None
+    (omega (arith, c.ranges.key.fits, c.self.invariant.0.full)) c.item_mut.ensures.value ∙ sym c.in-Some.ensures.value in
+    let less = rw c.keys_mut-used.ensures.value at c.unset.ensures in
+    rw (c.in-Some.ensures.after, c.keys_mut-used.ensures.value) (
+      direct_without c.self.invariant.0 c.args.key (omega (arith, c.ranges.key.fits)) c.in-Some.child now,
+      agrees_taken c.self.inside.block.keys.bytes.words c.self.inside.block.items c.self.invariant.1 c.args.key (omega (arith, c.ranges.key.fits, c.self.invariant.0.full))
+          c.unset.new.self.words less,
+    )
 
--- src/mapping/direct_mapping.rt:241:5
 pub returns-clause-taken : goal.returns-clause-taken
-returns-clause-taken g c = ?
+returns-clause-taken g c =
+    let now = place_reads c.self.inside.block.items c.args.key c.item_mut.result.now None
+    (omega (arith, c.ranges.key.fits, c.self.invariant.0.full)) c.item_mut.ensures.value in
+    c.in-Some.ensures.value ∙ sym now ∙ sym (numbered_child c.self.inside.block.items c.args.key)
+    ∙ ap (λ d. child_at c.args.key d.entries) c.self.view_is
 
--- src/mapping/direct_mapping.rt:241:5
 pub returns-clause-rest : goal.returns-clause-rest
-returns-clause-rest g c = ?
+returns-clause-rest g c = rw c.in-Some.ensures.after
+    (numbered-taken c.self.inside.block.items c.args.key (omega (arith, c.ranges.key.fits, c.self.invariant.0.full))
+    ∙ ap (λ d. without_byte c.args.key d.entries) c.self.view_is)

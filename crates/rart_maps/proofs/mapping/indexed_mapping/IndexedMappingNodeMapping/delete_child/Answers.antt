@@ -67,7 +67,7 @@ returns-clause-taken g c =
     let split = rw c.unwrap-last.ensures at c.pop.ensures in
     sym (moved_taken c.self.invariant c.pop.new.self.items c.unwrap-last.result (ap (λ b. b.items) split) c.args.key
     c.in-Some.slot c.len-end.result named c.len-end.ensures.count c.if-slot-end.false
-    c.replace.result (rw (← c.replace.ensures.value) c.item_mut.ensures.value))
+    c.replace.result (rw c.replace.ensures.value c.item_mut.ensures.value))
     ∙ ap (λ d. child_at c.args.key (sorted_entries d.entries)) c.self.view_is
 
 pub returns-clause-rest : goal.returns-clause-rest
