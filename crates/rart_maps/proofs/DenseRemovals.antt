@@ -122,8 +122,12 @@ module _ {X : Type 0} {width : ℕ} {at : List (Option ℕ)} {bs : List ℕ} {vs
           (λ t. ⊎_elim
           (λ u. absurd (none_some (sym read_gone ∙ ap (λ m. get_or at' m None) u.1 ∙ e)))
           (λ u. let old = sym (read_kept j t.1 u.1) ∙ e in
-          kept old (omega (arith, d.has_child j q old, all,
-          λ (s : q ≡ n). t.1 (ap (λ m. get_or bs m 0) (sym s) ∙ d.has_byte j q old)))
+          kept old (omega (
+            arith,
+            d.has_child j q old,
+            all,
+            λ (s : q ≡ n). t.1 (ap (λ m. get_or bs m 0) (sym s) ∙ d.has_byte j q old),
+          ))
           (λ s. u.1 (one_slot j q old s)))
           (eqb_tells k j))
           (eqb_tells bl j)
@@ -168,8 +172,12 @@ module _ {X : Type 0} {width : ℕ} {at : List (Option ℕ)} {bs : List ℕ} {vs
         let now = read_kept b u.1 t.1 ∙ e in
         dense_some moved_dense b q now
         ∙ filled_set_other rest p q last (λ s. t.1 (one_slot b q e s))
-        ∙ kept_child q (omega (arith, d.has_child b q e, all,
-        λ (s : q ≡ n). u.1 (ap (λ m. get_or bs m 0) (sym s) ∙ d.has_byte b q e)))
+        ∙ kept_child q (omega (
+          arith,
+          d.has_child b q e,
+          all,
+          λ (s : q ≡ n). u.1 (ap (λ m. get_or bs m 0) (sym s) ∙ d.has_byte b q e),
+        ))
         ∙ sym (dense_some d b q e))
         (λ e. dense_none moved_dense b (read_kept b u.1 t.1 ∙ e) ∙ sym (dense_none d b e)))
         (eqb_tells bl b)

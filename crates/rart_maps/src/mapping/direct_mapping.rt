@@ -350,10 +350,13 @@ impl<'a, N> Iterator for DirectMappingIter<'a, N> {
         let Some(byte) = self.bytes.next() else {
             return None;
         };
-        if let Some(Some(child)) = self.places.get(byte) {
-            return Some((byte as u8, child));
+        let Some(place) = self.places.get(byte) else {
+            unreachable!()
+        };
+        match place {
+            Some(child) => Some((byte as u8, child)),
+            None => unreachable!(),
         }
-        unreachable!()
     }
 }
 

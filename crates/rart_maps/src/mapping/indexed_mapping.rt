@@ -405,7 +405,8 @@ impl<N: Drop, const W: usize, B: BitsetTrait, E: Drop> IntoIterator for IndexedM
     }
 }
 
-impl<N: Drop, const W: usize, B: BitsetTrait, E: Drop> Iterator for IndexedMappingIntoIter<N, W, B, E> {
+impl<N: Drop, const W: usize, B: BitsetTrait, E: Drop> Iterator
+    for IndexedMappingIntoIter<N, W, B, E> {
     type Item = (u8, N);
 
     ghost next_gives = { YieldsFirst (λ rest. rest) };
@@ -433,4 +434,5 @@ impl<N: Drop, const W: usize, B: BitsetTrait, E: Drop> ExactSizeIterator
     }
 }
 
-impl<N: Drop, const W: usize, B: BitsetTrait, E: Drop> FusedIterator for IndexedMappingIntoIter<N, W, B, E> {}
+impl<N: Drop, const W: usize, B: BitsetTrait, E: Drop> FusedIterator
+    for IndexedMappingIntoIter<N, W, B, E> {}

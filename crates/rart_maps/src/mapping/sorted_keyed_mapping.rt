@@ -10,10 +10,10 @@ ghost use Rattle.rart_maps.specs.Bounds.{bound_of};
 
 mod search;
 
-use crate::mapping::{IndexedMapping, NodeMapping};
 use crate::mapping::sorted_keyed_mapping::search::{
     first_above, first_not_below, goes_last, keys_are_bytes, place_of,
 };
+use crate::mapping::{IndexedMapping, NodeMapping};
 use rart_block::Block;
 use rart_parts::TreeError;
 use rart_parts::utils::bitset::BitsetTrait;

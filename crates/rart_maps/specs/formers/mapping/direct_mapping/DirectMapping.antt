@@ -103,9 +103,11 @@ module _ (E : RattleType) (R R' : RattleType) (h : R.Denot → R'.Denot) where
       (λ u e. back h u.block.keys.bytes.words u.block.keys.count u.block.items e)
       (over (I.the_row R E)) (over (I.the_row R' E))
       (struct_places (I.the_type R E) (I.the_type R' E)
-      ((block.the_former (place this) E.Denot Used 256).map R.Denot R'.Denot h, tt) _ (λ d. refl) refl
-      (laid _ _ _ (block.the_places E used.the_row (number 256) (option.the_row R) (option.the_row R')
-      ((place this).map R.Denot R'.Denot h) (places.place_alike R R' h a)), tt))
+      ((block.the_former (place this) E.Denot Used 256).map R.Denot R'.Denot h, tt) _ (λ d. refl) refl (
+        laid _ _ _ (block.the_places E used.the_row (number 256) (option.the_row R) (option.the_row R')
+            ((place this).map R.Denot R'.Denot h) (places.place_alike R R' h a)),
+        tt,
+      ))
 
   pub the_codes_placed : Recodes R R' h → Recodes (C.the_row R E) (C.the_row R' E) (former.map R.Denot R'.Denot h)
   the_codes_placed e c = ap (λ es. gcons (E.coded.code c.extra) es)

@@ -1,18 +1,21 @@
-use Rattle.std.proofs.Common.{◌≡◌, ◌∙◌, None, Some, get_or, sym, ap, subst}
-use Rattle.rart_parts.proofs.PlaceLemmas.{used_place}
+use Rattle.std.proofs.Common.{◌∙◌, sym, subst}
+use Rattle.std.proofs.lemmas.Bool.{false≢true, lt-ltb}
+use Rattle.std.proofs.lemmas.Option.{none-some}
+use Rattle.rart_parts.proofs.PlaceLemmas.{used_place, used_read}
 use Rattle.rart_parts.proofs.maps.DirectLemmas.{place_reads}
-use Rattle.rart_maps.specs.Direct.{AreFilled, in_places, with_place}
+use Rattle.rart_maps.specs.Direct.{AreFilled}
 use Rattle.rart_maps.proofs.mapping.direct_mapping.DirectMappingIterIterator.next.Goals as goal
 
-pub returns-in-Some-Some-clause-steps : goal.returns-in-Some-Some-clause-steps
-returns-in-Some-Some-clause-steps g c =
+pub unreachable-requires : goal.unreachable-requires
+unreachable-requires g c =
+    let full = subst (AreFilled c.self.inside.places.now) c.in-Some.ensures.steps c.self.invariant in
+    false≢true (c.in_default-get.ensures.lookup.0
+    ∙ lt-ltb _ _ (used_place c.self.inside.places.now c.in-Some.byte full.1))
+
+pub unreachable-requires-in-None : goal.unreachable-requires-in-None
+unreachable-requires-in-None g c =
     let os = c.self.inside.places.now in
     let full = subst (AreFilled os) c.in-Some.ensures.steps c.self.invariant in
-    let read : get_or os c.in-Some.byte None ≡ Some c.in-Some-Some.child
-    = place_reads os c.in-Some.byte c.in-Some-Some.field-0.now None (used_place os c.in-Some.byte full.1)
-    c.in-Some-Some.ensures.lookup.1 ∙ c.in-Some-Some.field-0-is in
-    sym c.self.view_is ∙ ap (λ ps. in_places ps os) c.in-Some.ensures.steps
-    ∙ ap (λ o. with_place c.in-Some.byte o (in_places c.next.new.self os)) read
-
-pub unreachable-requires : goal.unreachable-requires
-unreachable-requires g c = ?
+    let child = used_read os c.in-Some.byte full.1 in
+    none-some _ (sym c.in-None.is ∙ sym (place_reads os c.in-Some.byte c.in-Some-get.place.now _
+    (used_place os c.in-Some.byte full.1) c.in-Some-get.ensures.lookup.1) ∙ child.1)

@@ -16,9 +16,9 @@ add_child-requires g c =
       omega arith,
       (
         moved_absent (c.args.source.now.entries) (sorted_entries c.loop-key.self.entries) (without_byte c.in-Some.key (c.loop-key.source.entries))
-    (c.in-Some.key, c.unwrap-child.result) c.loop-key.invariant.0 is,
+            (c.in-Some.key, c.unwrap-child.result) c.loop-key.invariant.0 is,
         moved_fits (c.args.source.now.entries) (sorted_entries c.loop-key.self.entries) (without_byte c.in-Some.key (c.loop-key.source.entries))
-    (c.in-Some.key, c.unwrap-child.result) c.loop-key.invariant.0 is g.row.W c.requires.at_most,
+            (c.in-Some.key, c.unwrap-child.result) c.loop-key.invariant.0 is g.row.W c.requires.at_most,
       ),
     )
 

@@ -37,14 +37,22 @@ push-requires g c = (
 pub invariant_of-self : goal.invariant_of-self
 invariant_of-self g c = rw (c.push.ensures, c.set.ensures, c.keys_mut-slots.ensures.value)
     (pushed_dense c.self.invariant c.args.key c.len-slot.result c.args.node (omega (arith, c.ranges.key.fits))
-    c.len-slot.ensures.count (omega (arith, c.requires.not_full, dense_count c.self.invariant,
-    ap (λ d. length (sorted_entries d.entries)) c.self.view_is))
+    c.len-slot.ensures.count (omega (
+      arith,
+      c.requires.not_full,
+      dense_count c.self.invariant,
+      ap (λ d. length (sorted_entries d.entries)) c.self.view_is,
+    ))
     (ap (λ d. child_at c.args.key (sorted_entries d.entries)) c.self.view_is ∙ c.requires.absent))
 
 pub returns-clause-entries : goal.returns-clause-entries
 returns-clause-entries g c = rw (c.push.ensures, c.keys_mut-slots.ensures.value)
     (pushed_map c.self.invariant c.args.key c.len-slot.result c.args.node (omega (arith, c.ranges.key.fits))
-    c.len-slot.ensures.count (omega (arith, c.requires.not_full, dense_count c.self.invariant,
-    ap (λ d. length (sorted_entries d.entries)) c.self.view_is))
+    c.len-slot.ensures.count (omega (
+      arith,
+      c.requires.not_full,
+      dense_count c.self.invariant,
+      ap (λ d. length (sorted_entries d.entries)) c.self.view_is,
+    ))
     (ap (λ d. child_at c.args.key (sorted_entries d.entries)) c.self.view_is ∙ c.requires.absent)
     ∙ ap (λ d. with_entry c.args.key c.args.node (sorted_entries d.entries)) c.self.view_is)

@@ -48,16 +48,25 @@ item_mut-requires g c =
     let named = ap (λ s. get_or s.index c.args.key None) (sym c.keys.ensures) ∙ sym c.in-Some.ensures in
     let split = rw c.unwrap-last.ensures at c.pop.ensures in (
       omega arith,
-      omega (arith, lower c.self.invariant c.pop.new.self.items c.unwrap-last.result (ap (λ b. b.items) split) c.args.key
-    c.in-Some.slot c.len-end.result named c.len-end.ensures.count c.if-slot-end.false, c.len-end.ensures.count),
+      omega (
+        arith,
+        lower c.self.invariant c.pop.new.self.items c.unwrap-last.result (ap (λ b. b.items) split) c.args.key
+            c.in-Some.slot c.len-end.result named c.len-end.ensures.count c.if-slot-end.false,
+        c.len-end.ensures.count,
+      ),
     )
 
 pub invariant_of-self-2 : goal.invariant_of-self-2
 invariant_of-self-2 g c =
     let named = ap (λ s. get_or s.index c.args.key None) (sym c.keys.ensures) ∙ sym c.in-Some.ensures in
     let split = rw c.unwrap-last.ensures at c.pop.ensures in
-    rw (c.replace.ensures.after, c.set.ensures, c.erase-slot.ensures.new, c.keys_mut-slots.ensures.value,
-    ← ap (λ b. b.keys) split)
+    rw (
+      c.replace.ensures.after,
+      c.set.ensures,
+      c.erase-slot.ensures.new,
+      c.keys_mut-slots.ensures.value,
+      ← ap (λ b. b.keys) split,
+    )
     (moved_dense c.self.invariant c.pop.new.self.items c.unwrap-last.result (ap (λ b. b.items) split) c.args.key
     c.in-Some.slot c.len-end.result named c.len-end.ensures.count c.if-slot-end.false)
 

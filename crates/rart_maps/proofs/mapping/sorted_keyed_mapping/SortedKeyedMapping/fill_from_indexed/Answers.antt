@@ -16,9 +16,9 @@ add_child-requires g c =
       omega arith,
       (
         moved_absent (sorted_entries c.args.source.now.entries) (c.loop-key.self.entries) (without_byte c.in-Some.key (sorted_entries c.loop-key.source.entries))
-    (c.in-Some.key, c.unwrap-child.result) c.loop-key.invariant.0 is,
+            (c.in-Some.key, c.unwrap-child.result) c.loop-key.invariant.0 is,
         moved_fits (sorted_entries c.args.source.now.entries) (c.loop-key.self.entries) (without_byte c.in-Some.key (sorted_entries c.loop-key.source.entries))
-    (c.in-Some.key, c.unwrap-child.result) c.loop-key.invariant.0 is g.row.W c.requires.at_most,
+            (c.in-Some.key, c.unwrap-child.result) c.loop-key.invariant.0 is g.row.W c.requires.at_most,
       ),
     )
 
