@@ -20,6 +20,7 @@ pub use sorted_keyed_mapping::{
 pub trait NodeMapping<N, const NUM_CHILDREN: usize> {
     ghost map: { Self → List (ℕ × N) };
 
+    // What a map stores beside its entries is the same. No edit of entries changes it.
     ghost same_extra: { Self → Self → Type 0 };
 
     /// Inserts a child at a byte that has none.

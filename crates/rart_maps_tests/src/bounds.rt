@@ -51,11 +51,7 @@ fn own_byte(found: Option<(u8, &u8)>) -> Option<u8> {
     (byte == *child).then_some(byte)
 }
 
-fn have_last_under(
-    sorted: &Sorted16,
-    indexed: &Indexed48,
-    direct: &DirectMapping<u8>,
-) -> bool {
+fn have_last_under(sorted: &Sorted16, indexed: &Indexed48, direct: &DirectMapping<u8>) -> bool {
     for (above, want) in &LAST_UNDER {
         if own_byte(sorted.last_under(*above)) != *want
             || own_byte(indexed.last_under(*above)) != *want
@@ -79,7 +75,8 @@ fn walks_above_a_byte_and_the_last_child_under_a_bound_cross_the_words_of_the_se
         && indexed.last_under(None).is_none()
         && direct.last_under(None).is_none();
     let filled = fill(&mut sorted, &SCATTERED)
-        && fill(&mut indexed, &SCATTERED) && fill(&mut direct, &SCATTERED);
+        && fill(&mut indexed, &SCATTERED)
+        && fill(&mut direct, &SCATTERED);
     assert!(rt; is_empty && filled && lend_above(&sorted, &indexed, &direct));
     assert!(rt; have_last_under(&sorted, &indexed, &direct));
     Ok(())

@@ -10,4 +10,9 @@ mod compare;
 #[cfg(test)]
 mod conversions;
 #[cfg(test)]
+mod extras;
+#[cfg(test)]
 mod mappings;
+#[cfg(test)]
+mod sizes;
+pub mod tree;

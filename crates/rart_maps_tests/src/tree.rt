@@ -1,18 +1,18 @@
-//! A recursive type over the map.
+//! A type that holds itself in the maps, and walks through it.
 ghost use Rattle.std.specs.Prelude.{⊤};
 
-use crate::mapping::{DirectMapping, IndexedMapping, NodeMapping, SortedKeyedMapping};
+use rart_maps::mapping::{DirectMapping, IndexedMapping, NodeMapping, SortedKeyedMapping};
 use rart_parts::utils::bitset::Bitset64;
 
-/// A tree.
+/// A tree whose inner nodes have a value or none.
 pub enum Tree {
-    /// A leaf.
+    /// A value alone.
     Leaf(u64),
-    /// An inner node.
+    /// At most four children.
     Inner(SortedKeyedMapping<Tree, 4, Option<u64>>),
-    /// A wide inner node.
+    /// At most 48 children.
     Wide(IndexedMapping<Tree, 48, Bitset64<1>, Option<u64>>),
-    /// An inner node with a place for each byte.
+    /// A child for each byte.
     Full(DirectMapping<Tree, Option<u64>>),
 }
 
