@@ -1,18 +1,18 @@
 -- Children in slots without gaps through the calls of an indexed map.
-use Rattle.std.proofs.Common.{◌≡◌, ◌≢◌, ℕ, zero, suc, ◌<◌, ◌≤◌, ◌+◌, true, false, cond, eqb, List, [], ◌∷◌, ◌++◌, Option}
-use Rattle.std.proofs.Common.{Some, None, length, map, get_or, set, replicate, sym, ap, ◌∙◌, refl, arith, ⊎_elim, subst}
+use Rattle.std.proofs.Common.{◌≡◌, ◌≢◌, ℕ, zero, suc, ◌<◌, ◌≤◌, ◌+◌, true, cond, eqb, List, [], ◌∷◌, ◌++◌, Option}
+use Rattle.std.proofs.Common.{Some, None, length, get_or, set, replicate, sym, ap, ◌∙◌, refl, arith, ⊎_elim, subst}
 use Rattle.std.specs.List.{zip}
 use Rattle.std.proofs.lemmas.Bool.{eq-eqb, ne_eqb, cases_lt, lt-ltb, le-ltb}
 use Rattle.std.proofs.lemmas.Bool.Decides.{eqb_tells}
 use Rattle.std.proofs.lemmas.List.{length-set, length-append, length-replicate, get_or-set_same, get_or-set_other, map-set}
 use Rattle.std.proofs.lemmas.List.{get_or_past}
 use Rattle.std.proofs.Math.ListN.{get_or-append}
-use Rattle.rart_parts.specs.Entries.{child_at, with_entry, without_byte, replaced_at, sorted_entries, with_another}
+use Rattle.rart_parts.specs.Entries.{child_at, with_entry, replaced_at, sorted_entries, with_another}
 use Rattle.rart_parts.specs.Entries.{BytesAscend, entries_above}
 use Rattle.rart_parts.specs.Indexed.{names, byte_of, with_bytes, by_slots, IsIndex}
 use Rattle.rart_parts.specs.Places.{is_used, numbered_values}
-use Rattle.rart_parts.proofs.entries.EntryLemmas.{same_lookups, child_at-with_entry, child_at-without_byte}
-use Rattle.rart_parts.proofs.entries.EntryLemmas.{child_at-replaced, with_entry-ascends, without_byte-ascends}
+use Rattle.rart_parts.proofs.entries.EntryLemmas.{same_lookups, child_at-with_entry}
+use Rattle.rart_parts.proofs.entries.EntryLemmas.{child_at-replaced, with_entry-ascends}
 use Rattle.rart_parts.proofs.entries.EntryLemmas.{replaced-ascends}
 use Rattle.rart_parts.proofs.PlaceLemmas.{used_place}
 use Rattle.rart_parts.proofs.maps.IndexLemmas.{indexed_none, indexed_some, map_of_ascends, by_index}

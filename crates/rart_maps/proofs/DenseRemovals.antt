@@ -1,6 +1,6 @@
 -- A child is removed from slots without gaps: the last child moves into its slot.
-use Rattle.std.proofs.Common.{◌≡◌, ◌≢◌, ℕ, ◌<◌, ◌+◌, cond, eqb, List, [], ◌∷◌, ◌++◌, Option, Some, None, length, get_or}
-use Rattle.std.proofs.Common.{set, sym, ap, ◌∙◌, refl, arith, ⊎_elim, subst}
+use Rattle.std.proofs.Common.{◌≡◌, ◌≢◌, ℕ, ◌<◌, ◌+◌, cond, List, [], ◌∷◌, ◌++◌, Option, Some, None, length, get_or}
+use Rattle.std.proofs.Common.{set, sym, ap, ◌∙◌, refl, arith, ⊎_elim}
 use Rattle.std.specs.List.{zip}
 use Rattle.std.proofs.lemmas.Bool.Decides.{eqb_tells}
 use Rattle.std.proofs.lemmas.List.{length-set, length-append, get_or-set_same, get_or-set_other}

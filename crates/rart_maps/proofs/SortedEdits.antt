@@ -1,5 +1,5 @@
 -- The keys and the children of a sorted map's block through its edits.
-use Rattle.std.proofs.Common.{◌≡◌, ℕ, ◌<◌, ◌≤◌, ◌+◌, ◌-◌, List, [], ◌∷◌, ◌++◌, Some, None, length, get_or, set, sym, ap}
+use Rattle.std.proofs.Common.{◌≡◌, ℕ, ◌<◌, ◌≤◌, ◌+◌, ◌-◌, List, [], ◌∷◌, ◌++◌, None, length, get_or, set, sym, ap}
 use Rattle.std.proofs.Common.{◌∙◌, refl, arith, subst}
 use Rattle.std.specs.List.{insert, remove, zip}
 use Rattle.std.proofs.lemmas.List.{length-append, length-set, get_or-set_other}

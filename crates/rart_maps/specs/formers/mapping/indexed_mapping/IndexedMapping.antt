@@ -1,7 +1,7 @@
 -- `IndexedMapping` as a type that may hold the type that holds it, by its children.
 use Rattle.std.specs.Prelude.{◌≡◌, ◌<◌, ◌≤◌, ℕ, List, Option, map, length}
 use Rattle.std.specs.Coded.{coded_option}
-use mathlib.Core.Path.{refl, sym, ap, subst, ◌∙◌}
+use mathlib.Core.Path.{refl, sym, ap, subst}
 use mathlib.Core.Former.{Former, this, via, children}
 use native.Mathlib.Nat.{ℕ_set}
 use native.Mathlib.Bridge.{le_prop}

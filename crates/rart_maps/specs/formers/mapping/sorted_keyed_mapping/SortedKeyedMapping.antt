@@ -7,7 +7,7 @@ use native.Mathlib.Nat.{ℕ_set}
 use native.Mathlib.Bridge.{le_prop}
 use native.Mathlib.Omega.{arith}
 use lib.ListN.{length-map}
-use base.Stored.{gcons, coded_ℕ, coded×, coded_list, code_map}
+use base.Stored.{gcons, coded_ℕ, coded×, code_map}
 use denote.RattleType.{RattleType}
 use denote.Param.{ArrayAt, value_of}
 use denote.HoleLaws.{Alike}

@@ -1,4 +1,4 @@
-use Rattle.std.proofs.Common.{◌≡◌, ◌≤◌, ◌++◌, length}
+use Rattle.std.proofs.Common.{◌≡◌, ◌++◌, length}
 use Rattle.rart_parts.specs.Entries.{BytesAscend, sorted_entries}
 use Rattle.rart_maps.proofs.mapping.indexed_mapping.IndexedMapping.fill_from_direct.Given as goal
 

@@ -1,4 +1,4 @@
-use Rattle.std.proofs.Common.{◌∙◌, None, List, get_or, sym, ap, arith}
+use Rattle.std.proofs.Common.{◌∙◌, None, get_or, sym, ap, arith}
 use Rattle.rart_parts.specs.Entries.{child_at, without_byte, sorted_entries}
 use Rattle.rart_parts.proofs.entries.EntryLemmas.{without_absent}
 use Rattle.rart_maps.proofs.DenseLemmas.{dense_none}

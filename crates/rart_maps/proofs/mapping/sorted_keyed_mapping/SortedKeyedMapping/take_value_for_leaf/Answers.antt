@@ -1,4 +1,4 @@
-use Rattle.std.proofs.Common.{◌≡◌, ◌∙◌, [], sym, ap, refl, set, remove, length, arith}
+use Rattle.std.proofs.Common.{◌≡◌, ◌∙◌, ap, refl, set, remove, length, arith}
 use Rattle.std.proofs.lemmas.List.{length-set}
 use Rattle.rart_parts.proofs.maps.SortedLemmas.{counted, emptied, padded_alone, no_entries}
 use Rattle.rart_maps.proofs.SortedEdits.{kept_by, same_zip, one_removed}

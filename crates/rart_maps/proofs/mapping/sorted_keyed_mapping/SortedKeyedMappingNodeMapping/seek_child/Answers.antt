@@ -1,4 +1,4 @@
-use Rattle.std.proofs.Common.{◌∙◌, List, ap, sym, length, get_or}
+use Rattle.std.proofs.Common.{◌∙◌, List, ap, get_or}
 use Rattle.rart_parts.specs.Entries.{child_at}
 use Rattle.rart_maps.proofs.SortedSearch.{searched, found, not_found}
 use Rattle.rart_maps.proofs.mapping.sorted_keyed_mapping.SortedKeyedMappingNodeMapping.seek_child.Goals as goal

@@ -1,4 +1,4 @@
-use Rattle.std.proofs.Common.{◌∙◌, List, ap, sym, refl, length, get_or}
+use Rattle.std.proofs.Common.{◌∙◌, ap, refl}
 use Rattle.rart_parts.specs.Entries.{child_at, replaced_at}
 use Rattle.rart_parts.proofs.maps.SortedLemmas.{written}
 use Rattle.rart_maps.proofs.SortedSearch.{searched, found, not_found, left_at}
