@@ -3,20 +3,20 @@
 
 ghost use Rattle.std.specs.Prelude.{◌≡◌, ℕ, [], ◌∷◌, IfSome, IsSome, Some, ◌<◌, ◌≤◌, length, IfErr, IfOk, None, OnOk, OnErr};
 ghost use Rattle.std.specs.Prelude.{MatchOption, option_map, replicate};
-ghost use Rattle.std.specs.Iterator.{UpTo, YieldsFirst, YieldsFirstBy, item_count};
-ghost use Rattle.std.specs.Iterator.SizeHint.{IsWithinCount};
 ghost use Rattle.rart_parts.specs.Entries.{BytesAscend, IsLastUnder, sorted_entries, child_at, entries_above};
 ghost use Rattle.rart_parts.specs.Errors.{IsMemory};
 ghost use Rattle.rart_maps.specs.Bounds.{bound_of};
 ghost use Rattle.rart_block.specs.Contents.{with_items};
 ghost use Rattle.rart_parts.specs.Places.{values_in};
 
+mod iter;
+
 use crate::mapping::{IndexedMapping, NodeMapping, bound};
+pub use iter::{DirectMappingIntoIter, DirectMappingIter};
 use rart_block::Block;
 use rart_parts::TreeError;
-use rart_parts::utils::bitset::{Bitset, Bitset64, BitsetOnesIter, BitsetTrait};
+use rart_parts::utils::bitset::{Bitset, Bitset64, BitsetTrait};
 use std::alloc::Global;
-use std::iter::FusedIterator;
 use std::marker::Model;
 use std::mem;
 
@@ -148,7 +148,7 @@ impl<N, E> DirectMapping<N, E> {
         }
     }
 
-    /// Returns the child at the greatest byte below `above`, or at the greatest of all if that is `None`, with its byte.
+    /// Returns the child at the greatest byte below `above`, with its byte. `None` is no bound.
     pub fn last_under(&self, above: Option<u8>) -> Option<(u8, &N)>
         ensures last { IsLastUnder (bound_of above) self.now.entries
             (option_map (λ e. (e.0, e.1.now)) result) }
@@ -316,106 +316,3 @@ fn fill_place<X>(place: &mut Option<X>, x: X)
         None => {}
     }
 }
-
-/// Iterates over the children with their bytes, ascending. A contract reads it as the list of remaining items.
-#[derive(Drop)]
-pub struct DirectMappingIter<'a, N> {
-    bytes: BitsetOnesIter<u64, 4>,
-    places: &'a [Option<N>],
-}
-
-impl<'a, N> Model for DirectMappingIter<'a, N> {
-    ghost use Rattle.std.specs.Prelude.{ℕ, List, length};
-    ghost use Rattle.std.specs.Coded.{coded_list, coded×, coded_ℕ};
-    ghost use Rattle.rart_maps.specs.Direct.{AreFilled, in_places};
-
-    ghost Value = { List (ℕ × N) };
-
-    ghost coded = { coded_list (coded× coded_ℕ N.code) };
-
-    ghost view = { λ it. in_places it.bytes it.places.now };
-
-    ghost invariant = { λ it. AreFilled it.places.now it.bytes };
-}
-
-impl<'a, N> Iterator for DirectMappingIter<'a, N> {
-    type Item = (u8, &'a N);
-
-    ghost next_gives = { YieldsFirstBy (λ item. (item.0, item.1.now)) (λ rest. rest) };
-
-    ghost remaining = { item_count (λ rest. rest) };
-
-    #[inline(always)]
-    fn next(&mut self) -> Option<(u8, &'a N)> {
-        let Some(byte) = self.bytes.next() else {
-            return None;
-        };
-        let Some(place) = self.places.get(byte) else {
-            unreachable!()
-        };
-        match place {
-            Some(child) => Some((byte as u8, child)),
-            None => unreachable!(),
-        }
-    }
-}
-
-impl<'a, N> FusedIterator for DirectMappingIter<'a, N> {}
-
-/// Iterates over the children by value, ascending by byte. Dropping it drops the remaining children and the extra value.
-#[derive(Drop)]
-pub struct DirectMappingIntoIter<N, E = ()> {
-    rest: DirectMapping<N, E>,
-}
-
-impl<N, E> Model for DirectMappingIntoIter<N, E> {
-    ghost use Rattle.std.specs.Prelude.{ℕ, List};
-    ghost use Rattle.std.specs.Coded.{coded_list, coded×, coded_ℕ};
-
-    ghost Value = { List (ℕ × N) };
-
-    ghost coded = { coded_list (coded× coded_ℕ N.code) };
-
-    ghost view = { λ it. it.rest.entries };
-}
-
-impl<N: Drop, E: Drop> IntoIterator for DirectMapping<N, E> {
-    type Item = (u8, N);
-
-    type IntoIter = DirectMappingIntoIter<N, E>;
-
-    ghost into_iter_gives = { λ m it. it ≡ m.entries };
-
-    fn into_iter(self) -> DirectMappingIntoIter<N, E> {
-        DirectMappingIntoIter { rest: self }
-    }
-}
-
-impl<N: Drop, E: Drop> Iterator for DirectMappingIntoIter<N, E> {
-    type Item = (u8, N);
-
-    ghost next_gives = { YieldsFirst (λ rest. rest) };
-
-    ghost remaining = { item_count (λ rest. rest) };
-
-    fn next(&mut self) -> Option<(u8, N)> {
-        self.rest.take_first()
-    }
-
-    fn size_hint(&self) -> (usize, Option<usize>)
-        ensures lower { IsWithinCount result.0 (item_count (λ rest. rest) self.now) }
-        ensures upper { IfSome result.1 (UpTo (item_count (λ rest. rest) self.now)) }
-        ensures exact { result ≡ (length self.now, Some (length self.now)) }
-    {
-        let rest = self.rest.num_children();
-        (rest, Some(rest))
-    }
-}
-
-impl<N: Drop, E: Drop> ExactSizeIterator for DirectMappingIntoIter<N, E> {
-    fn len(&self) -> usize {
-        self.rest.num_children()
-    }
-}
-
-impl<N: Drop, E: Drop> FusedIterator for DirectMappingIntoIter<N, E> {}

@@ -4,7 +4,7 @@ use Rattle.std.proofs.lemmas.Option.{none-some}
 use Rattle.rart_parts.proofs.PlaceLemmas.{used_place, used_read}
 use Rattle.rart_parts.proofs.maps.DirectLemmas.{place_reads}
 use Rattle.rart_maps.specs.Direct.{AreFilled}
-use Rattle.rart_maps.proofs.mapping.direct_mapping.DirectMappingIterIterator.next.Goals as goal
+use Rattle.rart_maps.proofs.mapping.direct_mapping.iter.DirectMappingIterIterator.next.Goals as goal
 
 pub unreachable-requires : goal.unreachable-requires
 unreachable-requires g c =
