@@ -19,7 +19,8 @@ sys.dont_write_bytecode = True
 TOP = pathlib.Path(__file__).resolve().parents[1]
 FOLDER = TOP / "docs" / "api"
 CRATES = (
-    "rart", "rart_cidr", "rart_laws", "rart_nodes", "rart_shape", "rart_trie", "rart_keys", "rart_parts", "rart_block",
+    "rart", "rart_cidr", "rart_laws", "rart_nodes", "rart_shape", "rart_trie", "rart_keys", "rart_parts", "rart_maps",
+    "rart_block",
 )
 
 # The head of an item that callers see, of a function of a trait, of an `impl` or a trait, and of a module.

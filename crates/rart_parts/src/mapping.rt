@@ -1,6 +1,6 @@
 //! Maps from bytes to children, in four kinds of storage, which a contract reads as entries ascending by byte.
 
-mod byte_index;
+pub mod byte_index;
 pub mod direct_mapping;
 pub mod indexed_mapping;
 pub mod keyed_mapping;

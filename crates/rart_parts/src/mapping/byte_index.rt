@@ -11,7 +11,7 @@ use std::marker::Model;
 
 /// Maps each byte to a slot below 255, or to none.
 #[derive(Drop)]
-pub(crate) struct ByteIndex {
+pub struct ByteIndex {
     // The bytes that have a slot.
     used: Bitset64<4>,
     // Their slots; 255 at the other bytes.
@@ -34,7 +34,7 @@ impl Model for ByteIndex {
 
 impl ByteIndex {
     /// Returns an index with no slot.
-    pub(crate) fn new() -> Self
+    pub fn new() -> Self
         ensures { result ≡ replicate 256 None }
     {
         ByteIndex {
@@ -44,7 +44,7 @@ impl ByteIndex {
     }
 
     /// Returns the slot of a byte.
-    pub(crate) fn get(&self, byte: u8) -> Option<u8>
+    pub fn get(&self, byte: u8) -> Option<u8>
         ensures { result ≡ slice_index_or self.now byte None }
     {
         let slot = self.slots[byte as usize];
@@ -52,7 +52,7 @@ impl ByteIndex {
     }
 
     /// Sets the slot of a byte.
-    pub(crate) fn set(&mut self, byte: u8, slot: u8)
+    pub fn set(&mut self, byte: u8, slot: u8)
         requires { slot < 255 }
         ensures { self.new ≡ slice_set self.old byte (Some slot) }
     {
@@ -61,7 +61,7 @@ impl ByteIndex {
     }
 
     /// Removes the slot of a byte and returns it.
-    pub(crate) fn erase(&mut self, byte: u8) -> Option<u8>
+    pub fn erase(&mut self, byte: u8) -> Option<u8>
         ensures old { result ≡ slice_index_or self.old byte None }
         ensures new { self.new ≡ slice_set self.old byte None }
     {
@@ -72,14 +72,14 @@ impl ByteIndex {
     }
 
     /// Returns the least byte that has a slot.
-    pub(crate) fn first_used(&self) -> Option<usize>
+    pub fn first_used(&self) -> Option<usize>
         ensures { IsFirst (is_used self.now) 256 result }
     {
         self.used.first_set()
     }
 
     /// Returns the greatest byte below `above` that has a slot.
-    pub(crate) fn last_used_under(&self, above: usize) -> Option<usize>
+    pub fn last_used_under(&self, above: usize) -> Option<usize>
         requires { above ≤ 256 }
         ensures { IsLast (is_used self.now) above result }
     {
@@ -87,7 +87,7 @@ impl ByteIndex {
     }
 
     /// Returns the bytes that have a slot, with their slots, ascending.
-    pub(crate) fn iter(&self) -> ByteIndexIter<'_>
+    pub fn iter(&self) -> ByteIndexIter<'_>
         ensures { result ≡ numbered_values 0 self.now }
     {
         ByteIndexIter {
@@ -99,7 +99,7 @@ impl ByteIndex {
 
 impl ByteIndex {
     /// Returns the bytes above `byte` that have a slot, with their slots, ascending.
-    pub(crate) fn iter_above(&self, byte: u8) -> ByteIndexIter<'_>
+    pub fn iter_above(&self, byte: u8) -> ByteIndexIter<'_>
         ensures { result ≡ entries_above byte (numbered_values 0 self.now) }
     {
         let mut bytes = self.used.iter();
@@ -113,7 +113,7 @@ impl ByteIndex {
 
 /// Iterates over the bytes that have a slot. A contract reads it as the list of remaining items.
 #[derive(Drop)]
-pub(crate) struct ByteIndexIter<'a> {
+pub struct ByteIndexIter<'a> {
     bytes: BitsetOnesIter<u64, 4>,
     slots: &'a [u8; 256],
 }

@@ -55,7 +55,7 @@ pub fn u8_keys_find_key_position<const WIDTH: usize, B: BitsetTrait>(
 }
 
 /// Proves that the elements of an array of bytes are below 256.
-pub(crate) fn keys_are_bytes(keys: &[u8])
+pub fn keys_are_bytes(keys: &[u8])
     ensures { (k : ℕ) → slice_index keys.now k ≤ 255 }
 {
     let _keys = keys;

@@ -42,7 +42,7 @@ impl<W: BitsetWord, const S: usize> Bitset<W, S> {
 
 impl<W: BitsetWord, const S: usize> BitsetOnesIter<W, S> {
     /// Skips the positions up to and including `position`.
-    pub(crate) fn pass(&mut self, position: usize)
+    pub fn pass(&mut self, position: usize)
         ensures { self.new ≡ positions_above position self.old }
     {
         while let Some(first) = self.rest.first_set() {

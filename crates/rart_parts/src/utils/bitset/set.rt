@@ -9,7 +9,7 @@ use std::alloc::AllocError;
 /// Holds positions below `S * W::WIDTH` in `S` inline words.
 #[derive(Drop)]
 pub struct Bitset<W: BitsetWord, const S: usize> {
-    pub(crate) words: [W; S],
+    pub words: [W; S],
 }
 
 impl<W: BitsetWord, const S: usize> Bitset<W, S> {
@@ -23,7 +23,7 @@ impl<W: BitsetWord, const S: usize> Bitset<W, S> {
     }
 
     /// Returns the greatest position in the set below `above`.
-    pub(crate) fn last_under(&self, above: usize) -> Option<usize>
+    pub fn last_under(&self, above: usize) -> Option<usize>
         requires { above ≤ S * W.WIDTH }
         ensures { IsLast (bitset_has W.WIDTH W.number self.now) above result }
     {

@@ -1,0 +1,5 @@
+pub mod DenseLemmas
+pub mod DenseRemovals
+pub mod DirectPlaces
+pub mod SortedEdits
+pub mod SortedSearch

@@ -1,0 +1,6 @@
+pub mod Bounds
+pub mod Contents
+pub mod Dense
+pub mod Direct
+pub mod Loans
+pub mod formers

@@ -1,0 +1,3 @@
+pub mod direct_mapping
+pub mod indexed_mapping
+pub mod sorted_keyed_mapping
