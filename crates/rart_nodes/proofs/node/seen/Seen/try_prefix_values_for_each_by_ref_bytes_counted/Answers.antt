@@ -1,10 +1,5 @@
-use Rattle.std.proofs.Common.{List, Ok, Err, ap, ◌∙◌, sym, subst, arith, length}
+use Rattle.std.proofs.Common.{List, Ok, Err, ap, ◌∙◌, sym, subst, arith}
 use Rattle.std.specs.Option.{option_copied}
-use Rattle.rart_keys.specs.Filters.{below}
-use Rattle.rart_keys.specs.SortedMap.{values_of}
-use Rattle.rart_nodes.specs.tries.SeenTrees.{seen_keys, seen_pairs}
-use Rattle.rart_trie.specs.tries.Tree.{tree_pairs}
-use Rattle.rart_trie.specs.walks.ProbeCount.{probe_count}
 use Rattle.rart_trie.specs.walks.Walk.{entry_values}
 use Rattle.rart_nodes.specs.walks.PathParts.{no_segment}
 use Rattle.rart_nodes.specs.walks.Tried.{CanTry, EndsAfter, EndsAs}
