@@ -50,8 +50,7 @@ extern "C" {
 #define RART_FULL 3
 
 /* A key has more bytes than the map's keys have. The map has not changed, nor has a variable, except the place of a
- *   pair
- * that a load writes.
+ * pair that a load writes.
  */
 #define RART_KEY_TOO_LONG 4
 
@@ -205,8 +204,7 @@ uint8_t rart32_range(rart32 *map, uint8_t start_kind, const uint8_t *start, size
     size_t *written, bool *more);
 
 /* Writes the pairs within two bounds to `out`, descending by key, as many as fit. Writes their number to `written`,
- *   and
- * whether pairs are left to `more`. A caller that wants those passes the last key as an excluded end.
+ * and whether pairs are left to `more`. A caller that wants those passes the last key as an excluded end.
  *
  * Proved: RangesTo pair_in (range_fault 32 start_kind start.now end_kind end.now) map.old.held.tree.pairs (reverse
  *   (between (bound_of start_kind start.now) (bound_of end_kind end.now) map.old.held.tree.pairs)) (record { pairs =
@@ -230,8 +228,7 @@ uint8_t rart32_matches(rart32 *map, const uint8_t *probe, size_t probe_len, rart
     size_t out_len, size_t *written, bool *more);
 
 /* Replaces all pairs of a map by those of a buffer, whose keys must ascend; of equal keys the last pair stays. Writes
- *   the
- * place of the first pair that is refused, if its key is too long or below the one before it, to `at`.
+ * the place of the first pair that is refused, if its key is too long or below the one before it, to `at`.
  *
  * Proved: Loads 32 (lens_read pairs.now) (pairs_read pairs.now) map.old.held.tree.pairs map.new.held.tree.pairs
  *   at.old at.new (status_of result)
@@ -345,8 +342,7 @@ uint8_t rart128_range(rart128 *map, uint8_t start_kind, const uint8_t *start, si
     size_t *written, bool *more);
 
 /* Writes the pairs within two bounds to `out`, descending by key, as many as fit. Writes their number to `written`,
- *   and
- * whether pairs are left to `more`. A caller that wants those passes the last key as an excluded end.
+ * and whether pairs are left to `more`. A caller that wants those passes the last key as an excluded end.
  *
  * Proved: RangesTo pair_in (range_fault 128 start_kind start.now end_kind end.now) map.old.held.tree.pairs (reverse
  *   (between (bound_of start_kind start.now) (bound_of end_kind end.now) map.old.held.tree.pairs)) (record { pairs =
@@ -370,8 +366,7 @@ uint8_t rart128_matches(rart128 *map, const uint8_t *probe, size_t probe_len, ra
     size_t out_len, size_t *written, bool *more);
 
 /* Replaces all pairs of a map by those of a buffer, whose keys must ascend; of equal keys the last pair stays. Writes
- *   the
- * place of the first pair that is refused, if its key is too long or below the one before it, to `at`.
+ * the place of the first pair that is refused, if its key is too long or below the one before it, to `at`.
  *
  * Proved: Loads 128 (lens_read pairs.now) (pairs_read pairs.now) map.old.held.tree.pairs map.new.held.tree.pairs
  *   at.old at.new (status_of result)

@@ -33,8 +33,8 @@ pub const NO_MEMORY: u8 = 2;
 /// The map holds as many pairs as it can count. Nothing has changed.
 pub const FULL: u8 = 3;
 
-/// A key has more bytes than the map's keys have. The map has not changed, nor has a variable, except the place of a pair
-/// that a load writes.
+/// A key has more bytes than the map's keys have. The map has not changed, nor has a variable, except the place of a
+/// pair that a load writes.
 pub const KEY_TOO_LONG: u8 = 4;
 
 /// A bound is none of unbounded, included and excluded. Nothing has changed.
@@ -170,8 +170,8 @@ unsafe extern "C" {
         more: *mut bool,
     ) -> u8;
 
-    /// Writes the pairs within two bounds to `out`, descending by key, as many as fit. Writes their number to `written`, and
-    /// whether pairs are left to `more`. A caller that wants those passes the last key as an excluded end.
+    /// Writes the pairs within two bounds to `out`, descending by key, as many as fit. Writes their number to `written`,
+    /// and whether pairs are left to `more`. A caller that wants those passes the last key as an excluded end.
     pub fn rart32_range_descending(
         map: *mut Rart32,
         start_kind: u8,
@@ -198,8 +198,8 @@ unsafe extern "C" {
         more: *mut bool,
     ) -> u8;
 
-    /// Replaces all pairs of a map by those of a buffer, whose keys must ascend; of equal keys the last pair stays. Writes the
-    /// place of the first pair that is refused, if its key is too long or below the one before it, to `at`.
+    /// Replaces all pairs of a map by those of a buffer, whose keys must ascend; of equal keys the last pair stays. Writes
+    /// the place of the first pair that is refused, if its key is too long or below the one before it, to `at`.
     pub fn rart32_load_sorted(
         map: *mut Rart32,
         pairs: *const Rart32Pair,
@@ -286,8 +286,8 @@ unsafe extern "C" {
         more: *mut bool,
     ) -> u8;
 
-    /// Writes the pairs within two bounds to `out`, descending by key, as many as fit. Writes their number to `written`, and
-    /// whether pairs are left to `more`. A caller that wants those passes the last key as an excluded end.
+    /// Writes the pairs within two bounds to `out`, descending by key, as many as fit. Writes their number to `written`,
+    /// and whether pairs are left to `more`. A caller that wants those passes the last key as an excluded end.
     pub fn rart128_range_descending(
         map: *mut Rart128,
         start_kind: u8,
@@ -314,8 +314,8 @@ unsafe extern "C" {
         more: *mut bool,
     ) -> u8;
 
-    /// Replaces all pairs of a map by those of a buffer, whose keys must ascend; of equal keys the last pair stays. Writes the
-    /// place of the first pair that is refused, if its key is too long or below the one before it, to `at`.
+    /// Replaces all pairs of a map by those of a buffer, whose keys must ascend; of equal keys the last pair stays. Writes
+    /// the place of the first pair that is refused, if its key is too long or below the one before it, to `at`.
     pub fn rart128_load_sorted(
         map: *mut Rart128,
         pairs: *const Rart128Pair,

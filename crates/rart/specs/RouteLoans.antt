@@ -20,8 +20,8 @@ abbrev pub table_ends_as : (K T P : RattleType) → KeyMembers K.Denot → parti
 table_ends_as K T P k p table E = follows_so (table_row K T P k p) (table_row K T P k p) table.ghost_name none
     (λ _ _. ⊤) E
 
--- the target of a prefix was borrowed from the table, if there is one: the table ends with what was left there, and with
--- the same nodes; if nothing was borrowed, it is unchanged
+-- the target of a prefix was borrowed from the table, if there is one: the table ends with what was left there, and
+-- with the same nodes; if nothing was borrowed, it is unchanged
 abbrev pub lends_target : (K T P : RattleType) → KeyMembers K.Denot → partials.Ghosts P.Denot
     → MutBor (MapAndShape T.Denot) → List ℕ → Option (MutBor T.Denot) → Fml
 lends_target K T P k p table prefix lent = LendsSo (table_row K T P k p) T table lent

@@ -12,7 +12,7 @@ use Rattle.std.specs.Prelude.{drop, take}
 use Rattle.rart_c.specs.Batches.{IsBatch}
 
 module _ {P A Y : Type 0} (read : P → A) (show : Y → A) where
-  -- the first n of the buffer are what was yielded, and the rest is as it was
+  -- the first n of the buffer are what was yielded, and the others stay
   pub record IsFilled (old new : List P) (n : ℕ) (yielded : List Y) : Type 0 where
     pub number : n ≡ length yielded
     pub fits : n ≤ length new
@@ -84,6 +84,6 @@ pub batch-of : {P A : Type 0} {read : P → A} {all all' : List A} {old new : Li
 batch-of {P} {A} {read} {all} {all'} {old} {new} {written} {more} same =
     subst (λ (es : List A). IsBatch read es old new written more) same
 
--- an iterator whose state shows what is left yields that
+-- an iterator whose state shows the items ahead yields these
 pub shows : {S A B : Type 0} (v : A → B) (rest : S → List B) (s : S) → AlwaysYields (YieldsFirstBy v rest) v s (rest s)
 shows v rest s = listed (YieldsFirstBy v rest) v rest (λ s t h. ap length h.0) (λ s x t h. h) s

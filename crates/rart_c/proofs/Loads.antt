@@ -59,7 +59,11 @@ fewer false e n es h = omega (arith, h)
 
 fewer-from : (e : List ℕ × ℕ) (es : List (List ℕ × ℕ)) → length (last_wins_from e es) ≤ length es + 1
 fewer-from e [] = omega arith
-fewer-from e (f ∷ es) = omega (arith, fewer (bytes_eq e.0 f.0) e (length es + 1) (last_wins_from f es) (fewer-from f es))
+fewer-from e (f ∷ es) = omega (
+  arith,
+  fewer (bytes_eq e.0 f.0) e (length es + 1) (last_wins_from f es)
+      (fewer-from f es),
+)
 
 fewer-all : (es : List (List ℕ × ℕ)) → length (last_wins es) ≤ length es
 fewer-all [] = omega arith

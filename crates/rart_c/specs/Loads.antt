@@ -1,5 +1,6 @@
 -- Loads of a buffer of pairs.
-use Rattle.std.specs.Prelude.{◌≡◌, ◌<◌, ◌≤◌, ℕ, zero, suc, nat_lt, List, [], ◌∷◌, length, Option, None, Some, if◌then◌else◌, Result, Ok, Err}
+use Rattle.std.specs.Prelude.{◌≡◌, ◌<◌, ◌≤◌, ℕ, zero, suc, nat_lt, List, [], ◌∷◌, length, Option, None, Some}
+use Rattle.std.specs.Prelude.{if◌then◌else◌, Result, Ok, Err}
 use Rattle.rart_keys.specs.BulkLists.{first_fault, last_wins}
 use Rattle.rart.specs.MapAndShape.{MapAndShape}
 use Rattle.rart.specs.declared.bulk.BulkError.{BulkError}
@@ -10,7 +11,8 @@ use Rattle.rart_c.specs.Answers.{Status, Done, NoMemory, Full, KeyTooLong, Unsor
 -- the first place, from `place` on, of a length above the width
 abbrev pub first_too_long_from : ℕ → ℕ → List ℕ → Option ℕ
 first_too_long_from place width [] = None
-first_too_long_from place width (l ∷ ls) = if nat_lt width l then Some place else first_too_long_from (suc place) width ls
+first_too_long_from place width (l ∷ ls) = if nat_lt width l then Some place else first_too_long_from (suc
+    place) width ls
 
 -- the first place of a length above the width
 abbrev pub first_too_long : ℕ → List ℕ → Option ℕ
@@ -21,8 +23,8 @@ abbrev pub AreWithin : ℕ → List ℕ → Type 0
 AreWithin width [] = Unit {0}
 AreWithin width (l ∷ ls) = (l ≤ width) × AreWithin width ls
 
--- `load_sorted` of the pairs `all`, whose keys have these lengths. Done: the map has these pairs and no others, of equal
--- keys the last. Unsorted: at the place that was written, a key is below the one before it
+-- `load_sorted` of the pairs `all`, whose keys have these lengths. Done: the map has these pairs and no others, of
+-- equal keys the last. Unsorted: at the place that was written, a key is below the one before it
 abbrev pub Loads : ℕ → List ℕ → List (List ℕ × ℕ) → List (List ℕ × ℕ) → List (List ℕ × ℕ) → ℕ → ℕ → Status → Type 0
 Loads width lens all old new was is Done = (first_too_long width lens ≡ None) × (first_fault all ≡ None)
     × (new ≡ last_wins all) × (is ≡ was)

@@ -18,8 +18,8 @@ pub(crate) const NO_MEMORY: u8 = 2;
 /// The map holds as many pairs as it can count. Nothing has changed.
 pub(crate) const FULL: u8 = 3;
 
-/// A key has more bytes than the map's keys have. The map has not changed, nor has a variable, except the place of a pair
-/// that a load writes.
+/// A key has more bytes than the map's keys have. The map has not changed, nor has a variable, except the place of a
+/// pair that a load writes.
 pub(crate) const KEY_TOO_LONG: u8 = 4;
 
 /// A bound is none of unbounded, included and excluded. Nothing has changed.

@@ -4,7 +4,8 @@ use Rattle.std.proofs.Common.{Some, None, length, get_or, set, replicate, sym, a
 use Rattle.std.specs.List.{zip}
 use Rattle.std.proofs.lemmas.Bool.{eq-eqb, ne_eqb, cases_lt, lt-ltb, le-ltb}
 use Rattle.std.proofs.lemmas.Bool.Decides.{eqb_tells}
-use Rattle.std.proofs.lemmas.List.{length-set, length-append, length-replicate, get_or-set_same, get_or-set_other, map-set}
+use Rattle.std.proofs.lemmas.List.{length-set, length-append, length-replicate, get_or-set_same, get_or-set_other}
+use Rattle.std.proofs.lemmas.List.{map-set}
 use Rattle.std.proofs.lemmas.List.{get_or_past}
 use Rattle.std.proofs.Math.ListN.{get_or-append}
 use Rattle.rart_parts.specs.Entries.{child_at, with_entry, replaced_at, sorted_entries, with_another}
@@ -61,7 +62,8 @@ pub filled_last : {X : Type 0} (vs : List X) (x : X) → get_or (filled (vs ++ x
 filled_last [] x = refl
 filled_last (v ∷ vs) x = filled_last vs x
 
-pub filled_set : {X : Type 0} (vs : List X) (p : ℕ) (x : X) → p < length vs → get_or (filled (set vs p x)) p None ≡ Some x
+pub filled_set : {X : Type 0} (vs : List X) (p : ℕ) (x : X) → p < length vs → get_or (filled
+    (set vs p x)) p None ≡ Some x
 filled_set vs p x h = ap (λ l. get_or l p None) (map-set Some vs p x)
     ∙ get_or-set_same (filled vs) p (Some x) None (omega (arith, h, length-filled vs))
 
@@ -104,9 +106,11 @@ slots_below m n (Some q ∷ at) h = (h 0 q refl, slots_below m (suc n) at (λ k 
 pub slots_below-above : (m k : ℕ) (es : List (ℕ × ℕ)) → AreSlotsBelow m es → AreSlotsBelow m (entries_above k es)
 slots_below-above m k [] h = tt
 slots_below-above m k (e ∷ es) h = ⊎_elim
-    (λ l. subst (AreSlotsBelow m) (sym (ap (λ b. cond b (e ∷ entries_above k es) (entries_above k es)) (lt-ltb k e.0 l)))
+    (λ l. subst (AreSlotsBelow m)
+    (sym (ap (λ b. cond b (e ∷ entries_above k es) (entries_above k es)) (lt-ltb k e.0 l)))
     (h.0, slots_below-above m k es h.1))
-    (λ l. subst (AreSlotsBelow m) (sym (ap (λ b. cond b (e ∷ entries_above k es) (entries_above k es)) (le-ltb k e.0 l)))
+    (λ l. subst (AreSlotsBelow m)
+    (sym (ap (λ b. cond b (e ∷ entries_above k es) (entries_above k es)) (le-ltb k e.0 l)))
     (slots_below-above m k es h.1))
     (cases_lt k e.0)
 
@@ -299,4 +303,5 @@ module _ {X : Type 0} {width : ℕ} {at : List (Option ℕ)} {bs : List ℕ} {vs
         ∙ sym (dense_some d b q e))
         (λ e. dense_none written_dense b e ∙ sym (dense_none d b e))
         ∙ sym (ap (λ c. cond c (Some w) (child_at b (sorted_entries (zip bs vs)))) t.0))
-        (eqb_tells k b) ∙ sym (child_at-replaced k w old.0 (sorted_entries (zip bs vs)) (dense_some d k p named ∙ old.1) b))
+        (eqb_tells k b) ∙ sym (child_at-replaced k w old.0 (sorted_entries (zip bs vs))
+        (dense_some d k p named ∙ old.1) b))

@@ -65,7 +65,8 @@ module _ {X : Type 0} {width : ℕ} {at : List (Option ℕ)} {bs : List ℕ} {vs
           (eqb_tells k j);
       is_named = λ q l.
           let here = d.is_named q (omega (arith, l, all, count)) in
-          erased_other (get_or bs q 0) (λ e. let s : p ≡ q = some_same (sym named ∙ ap (λ m. get_or at m None) e ∙ here) in
+          erased_other (get_or bs q 0) (λ e. let s : p ≡ q = some_same
+          (sym named ∙ ap (λ m. get_or at m None) e ∙ here) in
           omega (arith, s, same, l, count)) ∙ here;
     }
 
@@ -154,7 +155,8 @@ module _ {X : Type 0} {width : ℕ} {at : List (Option ℕ)} {bs : List ℕ} {vs
           let here = d.is_named q (omega (arith, below, all)) in
           ap (λ m. get_or at' m None) (get_or-set_other bs p q bl 0 t.1)
           ∙ read_kept (get_or bs q 0)
-          (λ e. let s : n ≡ q = some_same (sym named_last ∙ ap (λ m. get_or at m None) e ∙ here) in omega (arith, s, below))
+          (λ e. let s : n ≡ q = some_same (sym named_last ∙ ap (λ m. get_or at m None) e ∙ here) in omega
+          (arith, s, below))
           (λ e. t.1 (sym (some_same (sym named ∙ ap (λ m. get_or at m None) e ∙ here)))) ∙ here)
           (eqb_tells q p);
     }

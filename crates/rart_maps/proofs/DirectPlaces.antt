@@ -53,7 +53,8 @@ module _ {X : Type 0} (test : ℕ → Bool) (whole : List (Option X)) where
   walk_from n (None ∷ os) t e =
       let here : n ≡ n + 0 = omega arith in
       let none : test n ≡ false = ap test here ∙ t 0 (omega arith) in
-      ap (λ c. in_places (cond c (n ∷ members_from test (suc n) (length os)) (members_from test (suc n) (length os))) whole)
+      ap (λ c. in_places (cond c (n ∷ members_from test (suc n) (length os)) (members_from test (suc n) (length os)))
+      whole)
       none ∙ walk_from (suc n) os
       (λ j l. (let next : suc n + j ≡ n + suc j = omega arith in ap test next) ∙ t (suc j) (omega (arith, l)))
       (λ j l. (let next : suc n + j ≡ n + suc j = omega arith in ap (λ m. get_or whole m None) next)
@@ -62,7 +63,8 @@ module _ {X : Type 0} (test : ℕ → Bool) (whole : List (Option X)) where
       let here : n ≡ n + 0 = omega arith in
       let one : test n ≡ true = ap test here ∙ t 0 (omega arith) in
       let read : get_or whole n None ≡ Some x = ap (λ m. get_or whole m None) here ∙ e 0 (omega arith) in
-      ap (λ c. in_places (cond c (n ∷ members_from test (suc n) (length os)) (members_from test (suc n) (length os))) whole)
+      ap (λ c. in_places (cond c (n ∷ members_from test (suc n) (length os)) (members_from test (suc n) (length os)))
+      whole)
       one ∙ ap (λ o. with_place n o (in_places (members_from test (suc n) (length os)) whole)) read
       ∙ ap (λ l. (n, x) ∷ l) (walk_from (suc n) os
       (λ j l. (let next : suc n + j ≡ n + suc j = omega arith in ap test next) ∙ t (suc j) (omega (arith, l)))
@@ -73,7 +75,8 @@ by_test : (b : Bool) (P : Type 0) → (b ≡ true → P) → (b ≡ false → P)
 by_test true P f g = f refl
 by_test false P f g = g refl
 
-module _ {X : Type 0} (ws : List ℕ) (os : List (Option X)) (full : length os ≡ 256) (a : Agrees 256 (has_byte ws) os) where
+module _ {X : Type 0} (ws : List ℕ) (os : List (Option X)) (full : length os ≡ 256) (a : Agrees 256 (has_byte ws)
+    os) where
   pub walk_all : in_places (members_from (has_byte ws) 0 256) os ≡ numbered_values 0 os
   walk_all =
       let at : (j : ℕ) → 0 + j ≡ j = λ (j : ℕ). omega arith in
@@ -103,7 +106,8 @@ module _ {X : Type 0} (k : ℕ) (os : List (Option X)) where
   place_passed : (p : ℕ) (o : Option X) (es : List (ℕ × X)) → p ≤ k
       → entries_above k es ≡ entries_above k (with_place p o es)
   place_passed p None es l = refl
-  place_passed p (Some x) es l = sym (ap (λ c. cond c ((p, x) ∷ entries_above k es) (entries_above k es)) (le-ltb k p l))
+  place_passed p (Some x) es l = sym (ap (λ c. cond c ((p, x) ∷ entries_above k es) (entries_above k es))
+      (le-ltb k p l))
 
   pub places_above : (ps : List ℕ) → in_places (positions_above k ps) os ≡ entries_above k (in_places ps os)
   places_above [] = refl
@@ -118,9 +122,11 @@ module _ {X : Type 0} (k : ℕ) (os : List (Option X)) where
   pub above_filled : (ps : List ℕ) → AreFilled os ps → AreFilled os (positions_above k ps)
   above_filled [] f = tt
   above_filled (p ∷ ps) f = ⊎_elim
-      (λ l. subst (AreFilled os) (sym (ap (λ c. cond c (p ∷ positions_above k ps) (positions_above k ps)) (lt-ltb k p l)))
+      (λ l. subst (AreFilled os)
+      (sym (ap (λ c. cond c (p ∷ positions_above k ps) (positions_above k ps)) (lt-ltb k p l)))
       (f.0, f.1, above_filled ps f.2))
-      (λ l. subst (AreFilled os) (sym (ap (λ c. cond c (p ∷ positions_above k ps) (positions_above k ps)) (le-ltb k p l)))
+      (λ l. subst (AreFilled os)
+      (sym (ap (λ c. cond c (p ∷ positions_above k ps) (positions_above k ps)) (le-ltb k p l)))
       (above_filled ps f.2))
       (cases_lt k p)
 

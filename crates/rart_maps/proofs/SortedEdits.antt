@@ -12,7 +12,8 @@ use Rattle.rart_parts.proofs.maps.SortedLemmas.{fits, added, deleted, put_in, pa
 use Rattle.rart_parts.proofs.maps.Zipped.{removed}
 
 -- what is true of a block is true of the same block
-pub kept_by : {E X : Type 0} {width : ℕ} {b d : Contents E (List ℕ) X} → b ≡ d → IsSortedKeyed width d.keys d.items width
+pub kept_by : {E X : Type 0} {width : ℕ} {b d : Contents E (List ℕ)
+    X} → b ≡ d → IsSortedKeyed width d.keys d.items width
     → IsSortedKeyed width b.keys b.items width
 kept_by {E} {X} {width} e s = subst (λ (c : Contents E (List ℕ) X). IsSortedKeyed width c.keys c.items width) (sym e) s
 

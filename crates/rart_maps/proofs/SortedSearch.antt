@@ -69,7 +69,13 @@ module _ {X : Type 0} {width : ℕ} {ks ks' : List ℕ} {vs : List X} (read : ks
       λ b above l. sym (ap (λ k. child_at b (zip k vs)) read) ∙ child_none b ks' vs (λ j m q. ⊎_elim
           (λ t. omega (arith, q, above, ap (λ i. get_or ks' i 0) t.1))
           (λ t. ⊎_elim
-          (λ u. omega (arith, q, above, ordered s' n count j (p - 1) (omega (arith, u, t.1)) (omega (arith, some, place.0))))
+          (λ u. omega (
+            arith,
+            q,
+            above,
+            ordered s' n count j (p - 1) (omega (arith, u, t.1))
+                (omega (arith, some, place.0)),
+          ))
           (λ u. omega (arith, q, l, not_below j (omega (arith, u, t.1)) (omega (arith, m, count))))
           (cases_lt j p))
           (eqb_tells j (p - 1))),

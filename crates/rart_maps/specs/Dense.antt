@@ -1,5 +1,6 @@
 -- Children in slots without gaps, the byte of each, and an index from bytes to slots.
-use Rattle.std.specs.Prelude.{◌≡◌, ℕ, ◌<◌, ◌≤◌, List, [], ◌∷◌, length, Option, Some, None, map, slice_index, slice_index_or}
+use Rattle.std.specs.Prelude.{◌≡◌, ℕ, ◌<◌, ◌≤◌, List, [], ◌∷◌, length, Option, Some, None, map, slice_index}
+use Rattle.std.specs.Prelude.{slice_index_or}
 
 -- places for as many bytes as there are slots, each byte that the index sends to a slot is the byte of that slot, which
 -- has a child, and the index sends the byte of each child to its slot

@@ -16,7 +16,8 @@ type Indexed48 = IndexedMapping<Place, 48, Bitset64<1>, Option<u64>>;
 
 type Direct = DirectMapping<Place, Option<u64>>;
 
-// Whether a map is one pointer, its one request is at most that many bytes, and returns the extra value if it is refused.
+// Whether a map is one pointer, its one request is at most that many bytes, and returns the extra value if it is
+// refused.
 macro_rules! is_one_block {
     ($map:ty, $alloc:expr, $bytes:expr) => {{
         add_bytes($alloc, $bytes);

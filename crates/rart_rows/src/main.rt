@@ -81,7 +81,7 @@ fn play_on_arrays(
     true
 }
 
-// The same of `TailKey`.
+// Plays a part on keys of `TailKey`, and returns whether keys of this size can be played.
 fn play_on_tails(alloc: Global, part: &Part<'_>, size: u64, how: How, report: &mut Report) -> bool {
     match size {
         0 => play_on::<TailKey<0>>(alloc, part, how, report),

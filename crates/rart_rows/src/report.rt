@@ -95,7 +95,7 @@ impl Report {
         self.answers(wanted.answer, found);
     }
 
-    /// The same of a row whose requests were refused.
+    /// Names a row that was answered otherwise with requests refused.
     pub fn wrong_refused(&mut self, wanted: &Wanted<'_>, form: &[u8], found: &[u8]) {
         self.line(wanted.line);
         self.put(form);

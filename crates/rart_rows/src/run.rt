@@ -159,7 +159,7 @@ fn refused_calls<K: KeyTrait + Drop>(
     (at == replies.len()).then_some(count)
 }
 
-// The same of a run's answer, which says where the run itself was refused.
+// How many calls a run's answer refuses; one if the run itself was refused.
 fn refused_in_answer<K: KeyTrait + Drop>(
     alloc: Global,
     unrefused: &mut Tree<K>,

@@ -16,7 +16,7 @@ const MANY: usize = 2000;
 /// What a refused call leaves.
 #[derive(Clone, Copy, PartialEq, Eq)]
 enum Left {
-    /// All as it was.
+    /// All pairs and nodes from before the call.
     All,
     /// All but a value that the callback wrote.
     Nodes,

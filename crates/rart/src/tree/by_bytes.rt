@@ -59,8 +59,8 @@ impl<K: KeyTrait, V> AdaptiveRadixTree<K, V> {
         Ok(self.remove_bytes(key)?.is_some())
     }
 
-    /// Removes all pairs whose key begins with the bytes `prefix`, which may be longer than any key, and returns them as
-    /// a tree of their own, as [`take_prefix_k`](Self::take_prefix_k).
+    /// Removes all pairs whose key begins with the bytes `prefix`, which may be longer than any key, and returns them
+    /// as a tree of their own, as [`take_prefix_k`](Self::take_prefix_k).
     ///
     /// # Errors
     ///
@@ -107,8 +107,8 @@ impl<K: KeyTrait, V> AdaptiveRadixTree<K, V> {
         })
     }
 
-    /// Removes all pairs whose key begins with the bytes `prefix`, which may be longer than any key, drops their values,
-    /// and returns how many there were.
+    /// Removes all pairs whose key begins with the bytes `prefix`, which may be longer than any key, drops their
+    /// values, and returns how many there were.
     ///
     /// # Errors
     ///

@@ -180,8 +180,8 @@ impl<K: KeyTrait, V> AdaptiveRadixTree<K, V> {
             .try_prefix_values_for_each_by_ref_bytes_counted(prefix, f, &mut Visits::new())
     }
 
-    /// Calls `f` as [`try_prefix_values_for_each_by_ref_bytes`](Self::try_prefix_values_for_each_by_ref_bytes) does, and
-    /// drops it.
+    /// Calls `f` as [`try_prefix_values_for_each_by_ref_bytes`](Self::try_prefix_values_for_each_by_ref_bytes) does,
+    /// and drops it.
     ///
     /// # Errors
     ///

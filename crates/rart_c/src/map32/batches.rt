@@ -118,8 +118,8 @@ pub extern "C" fn rart32_range(
     }
 }
 
-/// Writes the pairs within two bounds to `out`, descending by key, as many as fit. Writes their number to `written`, and
-/// whether pairs are left to `more`. A caller that wants those passes the last key as an excluded end.
+/// Writes the pairs within two bounds to `out`, descending by key, as many as fit. Writes their number to `written`,
+/// and whether pairs are left to `more`. A caller that wants those passes the last key as an excluded end.
 #[unsafe(no_mangle)]
 pub extern "C" fn rart32_range_descending(
     map: &mut Rart32,

@@ -60,8 +60,8 @@ fn load(alloc: Global, items: Vec<(ArrayKey<32>, u64)>) -> Result<Tree, BulkErro
     Tree::bulk_load_sorted(alloc, items)
 }
 
-/// Replaces all pairs of a map by those of a buffer, whose keys must ascend; of equal keys the last pair stays. Writes the
-/// place of the first pair that is refused, if its key is too long or below the one before it, to `at`.
+/// Replaces all pairs of a map by those of a buffer, whose keys must ascend; of equal keys the last pair stays. Writes
+/// the place of the first pair that is refused, if its key is too long or below the one before it, to `at`.
 #[unsafe(no_mangle)]
 pub extern "C" fn rart32_load_sorted(
     map: &mut Rart32,

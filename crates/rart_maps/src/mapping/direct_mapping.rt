@@ -1,7 +1,8 @@
 //! A map from bytes to children with a slot for each byte, which a contract reads as its ascending entries and an extra
 //! value.
 
-ghost use Rattle.std.specs.Prelude.{◌≡◌, ℕ, [], ◌∷◌, IfSome, IsSome, Some, ◌<◌, ◌≤◌, length, IfErr, IfOk, None, OnOk, OnErr};
+ghost use Rattle.std.specs.Prelude.{◌≡◌, ℕ, [], ◌∷◌, IfSome, IsSome, Some, ◌<◌, ◌≤◌, length, IfErr, IfOk, None, OnOk};
+ghost use Rattle.std.specs.Prelude.{OnErr};
 ghost use Rattle.std.specs.Prelude.{MatchOption, option_map, replicate};
 ghost use Rattle.rart_parts.specs.Entries.{BytesAscend, IsLastUnder, sorted_entries, child_at, entries_above};
 ghost use Rattle.rart_parts.specs.Errors.{IsMemory};

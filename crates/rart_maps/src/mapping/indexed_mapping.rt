@@ -315,7 +315,8 @@ impl<N, const W: usize, B: BitsetTrait, E> IndexedMapping<N, W, B, E> {
     /// Returns a mutable borrow of the extra value.
     #[inline(always)]
     pub fn extra_mut(&mut self) -> &mut E
-        ensures* writes_back { sem 𝓛 (lends_indexed_extra N.row W.row B.row E.row B.BitsetTrait self.entry result) }
+        ensures* writes_back { sem 𝓛
+            (lends_indexed_extra N.row W.row B.row E.row B.BitsetTrait self.entry result) }
         ensures value { result.now ≡ self.old.extra }
     {
         self.block.head_mut()

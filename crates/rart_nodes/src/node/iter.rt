@@ -241,8 +241,8 @@ impl<'a, K: KeyTrait, V, C: Count> Seen<'a, K, V, C> {
 }
 
 impl<'a, K: KeyTrait, V, C: Count> Seen<'a, K, V, C> {
-    /// Returns an iterator over the pairs whose key begins with the bytes `prefix`, which may be longer than any key. It
-    /// allocates as [`iter_counted`](Self::iter_counted) does.
+    /// Returns an iterator over the pairs whose key begins with the bytes `prefix`, which may be longer than any key.
+    /// It allocates as [`iter_counted`](Self::iter_counted) does.
     ///
     /// # Errors
     ///
@@ -302,8 +302,8 @@ impl<'a, K: KeyTrait, V, C: Count> Seen<'a, K, V, C> {
 }
 
 impl<'a, K: KeyTrait, V> Seen<'a, K, V, Visits> {
-    /// Returns an iterator over the pairs whose key begins with the bytes `prefix`, which may be longer than any key. It
-    /// allocates as [`iter_counted`](Self::iter_counted) does.
+    /// Returns an iterator over the pairs whose key begins with the bytes `prefix`, which may be longer than any key.
+    /// It allocates as [`iter_counted`](Self::iter_counted) does.
     ///
     /// # Errors
     ///

@@ -13,7 +13,7 @@ fn put_pair<K: KeyTrait + Drop>(found: Option<(K, &u64)>, answer: &mut Answer) {
     }
 }
 
-// The count of what is left, if it or the hint is not the wanted one.
+// The count of the items that remain, if it or the hint is not the wanted one.
 fn put_left(left: usize, hint: (usize, Option<usize>), wanted: usize, answer: &mut Answer) {
     if left != wanted || hint != (wanted, Some(wanted)) {
         answer.word(b"left");

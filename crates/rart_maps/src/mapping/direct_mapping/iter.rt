@@ -53,7 +53,8 @@ impl<'a, N> Iterator for DirectMappingIter<'a, N> {
 
 impl<'a, N> FusedIterator for DirectMappingIter<'a, N> {}
 
-/// Iterates over the children by value, ascending by byte. Dropping it drops the remaining children and the extra value.
+/// Iterates over the children by value, ascending by byte. Dropping it drops the remaining children and the extra
+/// value.
 #[derive(Drop)]
 pub struct DirectMappingIntoIter<N, E = ()> {
     rest: DirectMapping<N, E>,

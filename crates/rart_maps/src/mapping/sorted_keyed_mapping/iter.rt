@@ -51,7 +51,8 @@ impl<'a, N> Iterator for SortedKeyedMappingIter<'a, N> {
 
 impl<'a, N> FusedIterator for SortedKeyedMappingIter<'a, N> {}
 
-/// Iterates over the children by value, ascending by byte. Dropping it drops the remaining children and the extra value.
+/// Iterates over the children by value, ascending by byte. Dropping it drops the remaining children and the extra
+/// value.
 #[derive(Drop)]
 pub struct SortedKeyedMappingIntoIter<N, const W: usize, E = ()> {
     rest: SortedKeyedMapping<N, W, E>,

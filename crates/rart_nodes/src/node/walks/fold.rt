@@ -35,14 +35,14 @@ fn fold_values<'a, P: Partial, V, C: Count, S, F: FnMut(S, &V) -> S>(
 }
 
 impl<'a, K: KeyTrait, V, C: Count> Seen<'a, K, V, C> {
-    /// Calls `f` with the value of each pair whose key begins with the bytes `prefix`, which may be longer than any key,
-    /// in order. The first call gets `init`, each later one the answer of the call before it; returns the last answer.
-    /// `f` must be callable so. The caller keeps `f`.
+    /// Calls `f` with the value of each pair whose key begins with the bytes `prefix`, which may be longer than any
+    /// key, in order. The first call gets `init`, each later one the answer of the call before it; returns the last
+    /// answer. `f` must be callable so. The caller keeps `f`.
     ///
     /// # Errors
     ///
-    /// [`TreeError::Memory`] if the tree isn't empty and the allocation for the walk fails. Nothing is then
-    /// visited, and `f` is not called.
+    /// [`TreeError::Memory`] if the tree isn't empty and the allocation for the walk fails. Nothing is then visited,
+    /// and `f` is not called.
     ///
     /// # Visits
     ///

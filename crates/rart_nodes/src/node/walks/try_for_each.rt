@@ -43,15 +43,15 @@ fn try_for_each<'a, P: Partial, V, C: Count, E, F: FnMut(&V) -> Result<VisitCont
 }
 
 impl<'a, K: KeyTrait, V, C: Count> Seen<'a, K, V, C> {
-    /// Calls `f` with the value of each pair whose key begins with the bytes `prefix`, which may be longer than any key,
-    /// in order. `Stop` ends the walk with `Ok(())`; an `Err(e)` of the callback ends it with
+    /// Calls `f` with the value of each pair whose key begins with the bytes `prefix`, which may be longer than any
+    /// key, in order. `Stop` ends the walk with `Ok(())`; an `Err(e)` of the callback ends it with
     /// [`VisitError::Callback`]. `f` must be callable with each value in turn for as long as it returns `Continue`. The
     /// caller keeps `f`.
     ///
     /// # Errors
     ///
-    /// [`VisitError::Memory`] if the tree isn't empty and the allocation for the walk fails. Nothing is then
-    /// visited, and `f` is not called.
+    /// [`VisitError::Memory`] if the tree isn't empty and the allocation for the walk fails. Nothing is then visited,
+    /// and `f` is not called.
     ///
     /// # Visits
     ///

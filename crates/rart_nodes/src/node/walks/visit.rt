@@ -36,13 +36,13 @@ fn for_each_value<'a, P: Partial, V, C: Count, F: FnMut(&V)>(
 }
 
 impl<'a, K: KeyTrait, V, C: Count> Seen<'a, K, V, C> {
-    /// Calls `f` with the value of each pair whose key begins with the bytes `prefix`, which may be longer than any key,
-    /// in order. `f` must be callable with each of these values in turn. The caller keeps `f`.
+    /// Calls `f` with the value of each pair whose key begins with the bytes `prefix`, which may be longer than any
+    /// key, in order. `f` must be callable with each of these values in turn. The caller keeps `f`.
     ///
     /// # Errors
     ///
-    /// [`TreeError::Memory`] if the tree isn't empty and the allocation for the walk fails. Nothing is then
-    /// visited, and `f` is not called.
+    /// [`TreeError::Memory`] if the tree isn't empty and the allocation for the walk fails. Nothing is then visited,
+    /// and `f` is not called.
     ///
     /// # Visits
     ///

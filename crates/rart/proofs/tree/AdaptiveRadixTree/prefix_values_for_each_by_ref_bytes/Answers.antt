@@ -1,7 +1,10 @@
 use Rattle.rart.proofs.tree.AdaptiveRadixTree.prefix_values_for_each_by_ref_bytes.Goals as goal
 
 pub prefix_values_for_each_by_ref_bytes_counted-requires : goal.prefix_values_for_each_by_ref_bytes_counted-requires
-prefix_values_for_each_by_ref_bytes_counted-requires g c = record { callable = rw c.seen.ensures.pairs c.requires.callable }
+prefix_values_for_each_by_ref_bytes_counted-requires g c = record {
+  callable = rw c.seen.ensures.pairs
+      c.requires.callable;
+}
 
 pub returns-clause-calls : goal.returns-clause-calls
 returns-clause-calls g c = rw (← c.seen.ensures.pairs) c.prefix_values_for_each_by_ref_bytes_counted.ensures.calls

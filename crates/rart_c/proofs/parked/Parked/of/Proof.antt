@@ -66,9 +66,11 @@ of_spec {M} 𝓤 𝓛 𝓜 𝓡 wired T L drops glue =
     let allocates = passed γ (code.calls-std_heap::GlobalAllocator::allocate γ wired)
     (code.calls-std_heap::GlobalAllocator::deallocate γ wired) (code.calls-std_heap::GlobalAllocator::grow γ wired)
     (code.calls-std_heap::GlobalAllocator::shrink γ wired) M 𝓤 𝓛 𝓜 𝓡 in
-    let undropped = NoDrop.glues "rart_c::Destruct++none::drop" γ (code.calls-rart_c::Destruct++none::drop γ wired) Heap heap_laws
+    let undropped = NoDrop.glues "rart_c::Destruct++none::drop" γ (code.calls-rart_c::Destruct++none::drop γ
+    wired) Heap heap_laws
     M 𝓤 𝓛 𝓜 𝓡 in
-    let into_raw = met 𝓤 𝓛 𝓜 𝓡 (code.calls-std_alloc::boxed::Box::into_raw γ wired) T Heap L heap_laws ghosts dict no_drop
+    let into_raw = met 𝓤 𝓛 𝓜 𝓡 (code.calls-std_alloc::boxed::Box::into_raw γ
+    wired) T Heap L heap_laws ghosts dict no_drop
     drops allocates undropped glue in
     proved_at 𝓛 En hs c 𝓜 𝓡 (Goes-blank 𝓛 1 (plain (λ _. Boxed R)) no (λ κs x f. tt), tt) (#self key) fn
     (code.unfolded 𝓤 𝓛.H 𝓜 𝓡 wired (T, tt) drops) (λ z are.
@@ -77,7 +79,8 @@ of_spec {M} 𝓤 𝓛 𝓜 𝓡 wired T L drops glue =
     let Post : Val → SProp 𝓤 = (walk_of 𝓛 En hs c).post z in
     let Run : List Val → SProp 𝓤 = λ vs. WpFn 𝓤 𝓛.H 𝓣.C 𝓣.Λ fn vs Post in
     let tokens = ‵ (flft κ q) ⊛ ‵ ftrue in
-    qed 𝓛 ((tokens ⊛ ‵ (owns (types_at En.signature.params z.0.0) z.0.3 z.0.4)) ∷ raw ((c z.0.0 z.0.3).requires z.1) ∷ [])
+    qed 𝓛 ((tokens ⊛ ‵ (owns (types_at En.signature.params z.0.0) z.0.3 z.0.4)) ∷ raw ((c z.0.0 z.0.3).requires z.1) ∷
+    [])
     ∵ split ! $ move ! (1 ∷ []) $ fsplit ! $
     use1 𝓛 (‵ ((B E).own_val held z.0.4.0)) (id⊢ 𝓤 (sem 𝓛 ((Boxed R).own_val held z.0.4.0))) $
     box_out E ! held z.0.4.0 (λ b o h at_block stored fits.
@@ -100,14 +103,16 @@ of_spec {M} 𝓤 𝓛 𝓜 𝓡 wired T L drops glue =
     ((‵ (flft κ q) ⊛ ‵ (flft [] full_share) ⊛ ‵ ftrue) ⊛ ‵ (RawPtr.own_val r (u ∷ []))) ⊛ some
     (λ (ls : Lasts Ek y.0.0 y.0.3). ‵ (lasts Ek y.0.0 y.0.3 ls) ⊛ ‵ (owner r))))) (id⊢ 𝓤 (k.post y u)) $
     await ! tt $ pick ! (λ r. split ! $ move ! (1 ∷ []) $ pick ! (λ _. split ! $ drop ! $
-    in_a_block ! r owner (fst∗ 𝓤 (never 𝓤) (sem 𝓛 (ghosts.dealloc_token heap (bare (layout T)) null_ptr))) (λ b' o' at_r.
+    in_a_block ! r owner (fst∗ 𝓤 (never 𝓤) (sem 𝓛 (ghosts.dealloc_token heap (bare (layout T)) null_ptr))) (λ
+    b' o' at_r.
     let p = block_ptr b' o' in
     park R ! b' o' held.value $ parked_in R ! p (Some held.value) $ move ! (1 ∷ []) $ split ! $ move ! (1 ∷ []) $
     -- [the pointer; the lifetimes; what is parked]
     feq_l ! (λ u_is. lands_as ! (ap only u_is ∙ ap ptr_val at_r) refl (tt, tt) $
     sets ! (agg ! (and_then ! (get ! refl) (no_more !))) refl (stored_well R p) $
     split3 ! $ move ! (1 ∷ []) $ drop ! $ join ! $
-    use0 𝓛 (raw (fact 𝓤 (Some held.value ≡ Some held.value))) (fact_i 𝓤 (Some held.value ≡ Some held.value) (emp 𝓤) refl) $
+    use0 𝓛 (raw (fact 𝓤 (Some held.value ≡ Some held.value))) (fact_i 𝓤 (Some held.value ≡ Some held.value) (emp 𝓤)
+    refl) $
     nothing ! $ nothing ! $ fjoin ! $
     returns ! (look_at ! 0 refl) $ free_all ! refl $ keep ! (2 ∷ 0 ∷ 3 ∷ 1 ∷ []) $
     by ! (leaves 𝓛 En hs c z (stored_as p) (record { at = p; value = Some held.value }) (tt, tt) (tt, tt))))))))))

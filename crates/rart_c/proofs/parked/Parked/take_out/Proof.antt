@@ -43,7 +43,8 @@ use Rattle.std_heap.specs.contracts.GlobalAllocator.TheImpl.{ghosts, dict}
 use Rattle.std_heap.proofs.GlobalAllocator.TheImpl.Met.{passed}
 use Rattle.std_alloc.specs.contracts.boxed.Box.from_raw as callee
 use Rattle.std_alloc.proofs.boxed.Box.from_raw.Met.{met}
-use Rattle.rart_c.proofs.ParkedBoxes.{Heap, heap_laws, heaps, no_drop, boxes, Boxed, Parked, stored_as, stored_well, by_pointer, parked_out}
+use Rattle.rart_c.proofs.ParkedBoxes.{Heap, heap_laws, heaps, no_drop, boxes, Boxed, Parked, stored_as, stored_well}
+use Rattle.rart_c.proofs.ParkedBoxes.{by_pointer, parked_out}
 use Rattle.rart_c.specs.contracts.parked.Parked.take_out.{ended, clauses}
 use Rattle.rart_c.specs.contracts.parked.Parked.take_out.Key.{name as #self}
 use Rattle.rart_c.proofs.parked.Parked.take_out.Statement.{statement}
@@ -68,9 +69,11 @@ take_out_spec {M} 𝓤 𝓛 𝓜 𝓡 wired T L =
     let allocates = passed γ (code.calls-std_heap::GlobalAllocator::allocate γ wired)
     (code.calls-std_heap::GlobalAllocator::deallocate γ wired) (code.calls-std_heap::GlobalAllocator::grow γ wired)
     (code.calls-std_heap::GlobalAllocator::shrink γ wired) M 𝓤 𝓛 𝓜 𝓡 in
-    let undropped = NoDrop.glues "rart_c::Destruct++none::drop" γ (code.calls-rart_c::Destruct++none::drop γ wired) Heap heap_laws
+    let undropped = NoDrop.glues "rart_c::Destruct++none::drop" γ (code.calls-rart_c::Destruct++none::drop γ
+    wired) Heap heap_laws
     M 𝓤 𝓛 𝓜 𝓡 in
-    let from_raw = met 𝓤 𝓛 𝓜 𝓡 (code.calls-std_alloc::boxed::Box::from_raw γ wired) T Heap L heap_laws ghosts dict no_drop
+    let from_raw = met 𝓤 𝓛 𝓜 𝓡 (code.calls-std_alloc::boxed::Box::from_raw γ
+    wired) T Heap L heap_laws ghosts dict no_drop
     allocates undropped in
     proved_at 𝓛 En hs c 𝓜 𝓡 (
       Goes-blank 𝓛 1 (plain (λ _. Parked R)) no (λ κs x f. tt),
@@ -83,7 +86,8 @@ take_out_spec {M} 𝓤 𝓛 𝓜 𝓡 wired T L =
     let Run : List Val → SProp 𝓤 = λ vs. WpFn 𝓤 𝓛.H 𝓣.C 𝓣.Λ fn vs Post in
     let Out : RattleType = type_at En.signature.result z.0.0 in
     let tokens = ‵ (flft κ q) ⊛ ‵ ftrue in
-    qed 𝓛 ((tokens ⊛ ‵ (owns (types_at En.signature.params z.0.0) z.0.3 z.0.4)) ∷ raw ((c z.0.0 z.0.3).requires z.1) ∷ [])
+    qed 𝓛 ((tokens ⊛ ‵ (owns (types_at En.signature.params z.0.0) z.0.3 z.0.4)) ∷ raw ((c z.0.0 z.0.3).requires z.1) ∷
+    [])
     ∵ split ! $ move ! (1 ∷ []) $ fsplit ! $ move ! (1 ∷ []) $ fsplit ! $
     use1 𝓛 (‵ (Heap.own_val alloc z.0.4.1.0)) (id⊢ 𝓤 _) $ handle_tells heaps ! alloc z.0.4.1.0 (λ h second_is fits.
     move ! (2 ∷ []) $ parked_out R ! self z.0.4.0 (λ first_is.
@@ -136,11 +140,13 @@ take_out_spec {M} 𝓤 𝓛 𝓜 𝓡 wired T L =
     (λ (ls : Lasts Ek y.0.0 y.0.3). ‵ (lasts Ek y.0.0 y.0.3 ls) ⊛ (raw (fact 𝓤 (made.value ≡ x)) ⊛ raw
     (fact 𝓤 (made.alloc ≡ alloc))))))) (id⊢ 𝓤 (k.post y u)) $
     await ! tt $ pick ! (λ made. split ! $ move ! (1 ∷ []) $ pick ! (λ _. split3 ! $ drop ! $
-    heard ! (made.value ≡ x) (λ value_is. drop ! $ split ! $ split3 ! $ move ! (1 ∷ []) $ drop ! $ join ! $ move ! (1 ∷ []) $
+    heard ! (made.value ≡ x) (λ value_is. drop ! $ split ! $ split3 ! $ move ! (1 ∷ []) $ drop ! $ join ! $ move !
+    (1 ∷ []) $
     -- [the box; the lifetimes]
     box_out E ! made (u ∷ []) (λ b' o' h' at_new u_is fits'. box_in E ! made b' o' made.value at_new refl $
     rewrite ! 0 (λ (vs : List Val). ‵ ((B E).own_val made vs)) (sym u_is) refl $
-    let boxed : Good (layout (Boxed R)) u = subst (Good (layout (Boxed R))) (sym (ap only u_is)) (box_typed E h' b' o' fits')
+    let boxed : Good (layout (Boxed R)) u = subst (Good (layout (Boxed R))) (sym (ap only u_is)) (box_typed E h' b' o'
+    fits')
     in
     let answer : Val = live 1 (vcons u vnil) in
     let good : Good (layout Out) answer = (and_tt _ boxed.0, (record { fits = lit< tt }, (boxed.1, tt))) in

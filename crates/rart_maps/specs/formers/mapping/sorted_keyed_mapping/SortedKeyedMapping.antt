@@ -133,7 +133,8 @@ module _ (W E : RattleType) (R R' : RattleType) (h : R.Denot → R'.Denot) where
       (λ u e. along h _ u.block.keys u.block.items _ e) (λ u e. back h _ u.block.keys u.block.items _ e)
       (λ u e. subst (λ n. length u.block.items ≤ n) (sym e.full) e.few)
       (over (I.the_row R W E)) (over (I.the_row R' W E))
-      (struct_places (I.the_type R W E) (I.the_type R' W E) ((block.the_former this E.Denot (List ℕ) w).map R.Denot R'.Denot h, tt) _ (λ d. refl) refl
+      (struct_places (I.the_type R W E) (I.the_type R' W E)
+      ((block.the_former this E.Denot (List ℕ) w).map R.Denot R'.Denot h, tt) _ (λ d. refl) refl
       (laid _ _ _ (block.the_places E (ArrayAt u8 W) W R R' h a), tt))
 
   pub the_codes_placed : Recodes R R' h

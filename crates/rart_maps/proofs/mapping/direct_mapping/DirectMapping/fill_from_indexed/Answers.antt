@@ -21,28 +21,34 @@ unwrap-child-requires g c = subst IsSome (sym c.delete_child.ensures.taken) c.in
 
 pub add_child-requires-clause-absent : goal.add_child-requires-clause-absent
 add_child-requires-clause-absent g c =
-    let is = next_first (sorted_entries c.args.source.now.entries) (c.loop-key.self.entries) (sorted_entries c.loop-key.source.entries) c.in-Some.key c.loop-key.invariant.0
+    let is = next_first (sorted_entries c.args.source.now.entries) (c.loop-key.self.entries) (sorted_entries
+    c.loop-key.source.entries) c.in-Some.key c.loop-key.invariant.0
     c.loop-key.invariant.1 c.in-Some.ensures.least c.unwrap-child.result
     (sym c.delete_child.ensures.taken ∙ c.unwrap-child.ensures) in
-    moved_absent (sorted_entries c.args.source.now.entries) (c.loop-key.self.entries) (without_byte c.in-Some.key (sorted_entries c.loop-key.source.entries))
+    moved_absent (sorted_entries c.args.source.now.entries) (c.loop-key.self.entries) (without_byte c.in-Some.key
+    (sorted_entries c.loop-key.source.entries))
     (c.in-Some.key, c.unwrap-child.result) c.loop-key.invariant.0 is
 
 pub add_child-requires-clause-not_full : goal.add_child-requires-clause-not_full
 add_child-requires-clause-not_full g c =
-    let is = next_first (sorted_entries c.args.source.now.entries) (c.loop-key.self.entries) (sorted_entries c.loop-key.source.entries) c.in-Some.key c.loop-key.invariant.0
+    let is = next_first (sorted_entries c.args.source.now.entries) (c.loop-key.self.entries) (sorted_entries
+    c.loop-key.source.entries) c.in-Some.key c.loop-key.invariant.0
     c.loop-key.invariant.1 c.in-Some.ensures.least c.unwrap-child.result
     (sym c.delete_child.ensures.taken ∙ c.unwrap-child.ensures) in
-    moved_fits (sorted_entries c.args.source.now.entries) (c.loop-key.self.entries) (without_byte c.in-Some.key (sorted_entries c.loop-key.source.entries))
+    moved_fits (sorted_entries c.args.source.now.entries) (c.loop-key.self.entries) (without_byte c.in-Some.key
+    (sorted_entries c.loop-key.source.entries))
     (c.in-Some.key, c.unwrap-child.result) c.loop-key.invariant.0 is 256 c.loop-key.invariant.4
 
 pub loop-key-preserved : goal.loop-key-preserved
 loop-key-preserved g c =
-    let is = next_first (sorted_entries c.args.source.now.entries) (c.loop-key.self.entries) (sorted_entries c.loop-key.source.entries) c.in-Some.key c.loop-key.invariant.0
+    let is = next_first (sorted_entries c.args.source.now.entries) (c.loop-key.self.entries) (sorted_entries
+    c.loop-key.source.entries) c.in-Some.key c.loop-key.invariant.0
     c.loop-key.invariant.1 c.in-Some.ensures.least c.unwrap-child.result
     (sym c.delete_child.ensures.taken ∙ c.unwrap-child.ensures) in (
       c.loop-key.invariant.0,
       (λ i. c.add_child.ensures.entries i ++ c.delete_child.ensures.rest i)
-          ∙ moved_next (sorted_entries c.args.source.now.entries) (c.loop-key.self.entries) (without_byte c.in-Some.key (sorted_entries c.loop-key.source.entries))
+          ∙ moved_next (sorted_entries c.args.source.now.entries) (c.loop-key.self.entries) (without_byte
+          c.in-Some.key (sorted_entries c.loop-key.source.entries))
           (c.in-Some.key, c.unwrap-child.result) c.loop-key.invariant.0 is,
       c.add_child.ensures.extra ∙ c.loop-key.invariant.2,
       c.delete_child.ensures.extra ∙ c.loop-key.invariant.3,

@@ -6,7 +6,8 @@ use Rattle.rart_maps.proofs.mapping.direct_mapping.DirectMapping.iter.Goals as g
 
 pub invariant_of-result : goal.invariant_of-result
 invariant_of-result g c = rw (c.as_slice.ensures, c.iter.ensures, c.keys.ensures)
-    (all_filled c.self.inside.block.keys.bytes.words c.self.inside.block.items c.self.invariant.0.full c.self.invariant.1)
+    (all_filled c.self.inside.block.keys.bytes.words c.self.inside.block.items c.self.invariant.0.full
+    c.self.invariant.1)
 
 pub returns-clause-entries : goal.returns-clause-entries
 returns-clause-entries g c = rw (c.as_slice.ensures, c.iter.ensures, c.keys.ensures)

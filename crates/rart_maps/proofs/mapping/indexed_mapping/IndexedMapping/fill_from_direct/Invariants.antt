@@ -2,7 +2,7 @@ use Rattle.std.proofs.Common.{◌≡◌, ◌++◌, length}
 use Rattle.rart_parts.specs.Entries.{BytesAscend, sorted_entries}
 use Rattle.rart_maps.proofs.mapping.indexed_mapping.IndexedMapping.fill_from_direct.Given as goal
 
--- what was moved, and then what is left
+-- the children that were moved, and then those that remain
 abbrev pub invariant-loop-key : goal.invariant-loop-key
 invariant-loop-key g l = BytesAscend (l.fn.source.entries)
     × (sorted_entries l.self.entries ++ l.source.entries ≡ l.fn.source.entries)

@@ -11,7 +11,8 @@ use Rattle.rart_maps.proofs.mapping.indexed_mapping.IndexedMapping.last_under.Go
 pub returns-in_default-clause-last : goal.returns-in_default-clause-last
 returns-in_default-clause-last g c b h = sym (ap (λ d. child_at b (sorted_entries d.entries)) c.self.view_is)
     ∙ dense_none c.self.invariant b (free_read c.self.inside.block.keys.index b
-    (ap (λ s. is_used s.index b) (sym c.keys.ensures) ∙ c.in_default.ensures b (omega (arith, h, c.bound.ensures.value))))
+    (ap (λ s. is_used s.index b) (sym c.keys.ensures) ∙ c.in_default.ensures b
+    (omega (arith, h, c.bound.ensures.value))))
 
 pub unwrap-child-requires : goal.unwrap-child-requires
 unwrap-child-requires g c =

@@ -1,6 +1,7 @@
 use Rattle.rart_nodes.proofs.node.seen.Seen.try_prefix_values_for_each_by_ref_k_counted.Goals as goal
 
-pub try_prefix_values_for_each_by_ref_bytes_counted-requires : goal.try_prefix_values_for_each_by_ref_bytes_counted-requires
+pub try_prefix_values_for_each_by_ref_bytes_counted-requires
+    : goal.try_prefix_values_for_each_by_ref_bytes_counted-requires
 try_prefix_values_for_each_by_ref_bytes_counted-requires g c
     = record { callable = rw c.as_ref.ensures c.requires.callable }
 

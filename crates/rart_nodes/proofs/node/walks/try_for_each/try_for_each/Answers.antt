@@ -50,7 +50,8 @@ loop-value-preserved g c =
         k.0 + 1,
         (
           (λ n m r last i h. k.1.0 (1 + n) m r last (omega (arith, i))
-              (subst (λ (x : List (SegmentList × g.row.V.Denot)). EndsAfter g.F.FnMut c.loop-value.f (entry_values x) (1 + n)
+              (subst (λ (x : List (SegmentList × g.row.V.Denot)). EndsAfter g.F.FnMut c.loop-value.f (entry_values x)
+              (1 + n)
               r last) (sym e) (
                 c.in-Some.value,
                 (
@@ -124,7 +125,14 @@ returns-in-Ok-Stop-clause-by_calls g c = λ h w.
                 c.f.result,
                 (
                   c.f.new.self,
-                  (refl, (search (rules, of_calls), rw (c.in-Ok-Stop.is, c.in-Ok-Stop.field-0-is) (refl, (refl, refl)))),
+                  (
+                    refl,
+                    (
+                      search (rules, of_calls),
+                      rw (c.in-Ok-Stop.is, c.in-Ok-Stop.field-0-is)
+                          (refl, (refl, refl)),
+                    ),
+                  ),
                 ),
               ),
             )),
