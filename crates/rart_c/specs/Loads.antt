@@ -11,8 +11,8 @@ use Rattle.rart_c.specs.Answers.{Status, Done, NoMemory, Full, KeyTooLong, Unsor
 -- the first place, from `place` on, of a length above the width
 abbrev pub first_too_long_from : ℕ → ℕ → List ℕ → Option ℕ
 first_too_long_from place width [] = None
-first_too_long_from place width (l ∷ ls) = if nat_lt width l then Some place else first_too_long_from (suc
-    place) width ls
+first_too_long_from place width (l ∷ ls) =
+    if nat_lt width l then Some place else first_too_long_from (suc place) width ls
 
 -- the first place of a length above the width
 abbrev pub first_too_long : ℕ → List ℕ → Option ℕ

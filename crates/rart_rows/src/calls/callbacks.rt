@@ -8,7 +8,8 @@ use crate::request::Walk;
 use crate::world::Tree;
 use rart::{KeyTrait, TreeError, VisitControl, VisitError};
 
-fn put_walked(walked: Result<(), TreeError>, answer: &mut Answer) {
+/// The end of what a callback showed, or the refusal.
+pub fn put_walked(walked: Result<(), TreeError>, answer: &mut Answer) {
     match walked {
         Ok(()) => answer.end(),
         Err(error) => answer.error(error),

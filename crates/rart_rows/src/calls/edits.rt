@@ -8,6 +8,7 @@ use crate::row::Args;
 use crate::words::same_key;
 use crate::world::Tree;
 use rart::{KeyTrait, NotInserted, Refused, TreeError, TryInsertError};
+use std::mem;
 
 /// The old value of an insertion, or its refusal.
 pub fn put_inserted(
@@ -117,36 +118,10 @@ fn insert_new<K: KeyTrait + Drop>(
     }
 }
 
-// Writes the value over the stored one, which it returns.
-fn get_mut_k<K: KeyTrait>(tree: &mut Tree<K>, key: &K, value: u64) -> Option<u64> {
-    match tree.get_mut_k(key) {
-        Some(place) => {
-            let old = *place;
-            *place = value;
-            Some(old)
-        }
-        None => None,
-    }
-}
-
-fn get_mut<K: KeyTrait + Drop>(tree: &mut Tree<K>, key: K, value: u64) -> Option<u64> {
-    match tree.get_mut(key) {
-        Some(place) => {
-            let old = *place;
-            *place = value;
-            Some(old)
-        }
-        None => None,
-    }
-}
-
-fn get_mut_bytes<K: KeyTrait>(tree: &mut Tree<K>, key: &[u8], value: u64) -> Option<u64> {
-    match tree.get_mut_bytes(key) {
-        Some(place) => {
-            let old = *place;
-            *place = value;
-            Some(old)
-        }
+/// Writes a value over the one that is lent, which it returns.
+pub fn replaced(place: Option<&mut u64>, value: u64) -> Option<u64> {
+    match place {
+        Some(place) => Some(mem::replace(place, value)),
         None => None,
     }
 }
@@ -158,11 +133,11 @@ fn overwrite<K: KeyTrait + Drop>(
     form: Form,
 ) -> Option<u64> {
     if form.takes_key() {
-        get_mut(tree, same_key(key), value)
+        replaced(tree.get_mut(same_key(key)), value)
     } else if form.gives_bytes() {
-        get_mut_bytes(tree, key.as_ref(), value)
+        replaced(tree.get_mut_bytes(key.as_ref()), value)
     } else {
-        get_mut_k(tree, key, value)
+        replaced(tree.get_mut_k(key), value)
     }
 }
 

@@ -2,6 +2,7 @@
 
 use crate::answer::Answer;
 use crate::asked::Asked;
+use crate::calls::callbacks::put_walked;
 use crate::form::Form;
 use crate::names::Many;
 use crate::row::Args;
@@ -9,14 +10,6 @@ use crate::world::Tree;
 use rart::{IntoPairs, KeyTrait, TreeError};
 use std::alloc::Global;
 use std::mem;
-
-/// The end of what a callback showed, or the refusal after it.
-pub fn put_done(done: Result<(), TreeError>, answer: &mut Answer) {
-    match done {
-        Ok(()) => answer.end(),
-        Err(error) => answer.error(error),
-    }
-}
 
 // Keeps the pairs of a rule, and shows those that the callback is called with. It adds a number to each value.
 fn retain<K: KeyTrait>(
@@ -122,7 +115,7 @@ pub fn edit_many<K: KeyTrait + Drop>(
     match many {
         Many::Retain => {
             let done = retain(tree, asked.args(), asked.form, answer);
-            put_done(done, answer);
+            put_walked(done, answer);
         }
         Many::RemovePrefix => put_removed_count(remove_prefix(tree, asked), answer),
         Many::TakePrefix => take_prefix(tree, other, asked, answer),

@@ -1,7 +1,8 @@
 //! Calls of a route table at a prefix or at a probe.
 
 use crate::answer::Answer;
-use crate::calls::edits::{put_inserted, put_new, put_removed, put_tried};
+use crate::calls::callbacks::put_walked;
+use crate::calls::edits::{put_inserted, put_new, put_removed, put_tried, replaced};
 use crate::calls::looks::put_found;
 use crate::calls::many::put_removed_count;
 use crate::form::Form;
@@ -41,25 +42,6 @@ fn below<K: KeyTrait>(
     }
 }
 
-fn put_walked(walked: Result<(), TreeError>, answer: &mut Answer) {
-    match walked {
-        Ok(()) => answer.end(),
-        Err(error) => answer.error(error),
-    }
-}
-
-// Writes the target over the stored one, which it returns.
-fn overwrite<K: KeyTrait>(table: &mut Table<K>, prefix: &K, target: u64) -> Option<u64> {
-    match table.get_mut(prefix) {
-        Some(place) => {
-            let old = *place;
-            *place = target;
-            Some(old)
-        }
-        None => None,
-    }
-}
-
 /// Makes a call at a prefix.
 pub fn call_route<K: KeyTrait + Drop>(
     table: &mut Table<K>,
@@ -76,7 +58,7 @@ pub fn call_route<K: KeyTrait + Drop>(
         Route::Withdraw => put_removed(table.withdraw(prefix), answer),
         Route::Get => answer.value(table.get(prefix).copied()),
         Route::ContainsKey => answer.truth(table.contains_key(prefix)),
-        Route::GetMut => answer.value(overwrite(table, prefix, target)),
+        Route::GetMut => answer.value(replaced(table.get_mut(prefix), target)),
         Route::RemovePrefix => put_removed_count(table.remove_prefix(prefix), answer),
         Route::RouteWithPrefix => put_found(table.route_with_prefix(prefix), answer),
         Route::CoveringForEach => {

@@ -1,7 +1,7 @@
 //! Edits of a whole route table by a callback.
 
 use crate::answer::Answer;
-use crate::calls::many::put_done;
+use crate::calls::callbacks::put_walked;
 use crate::form::Form;
 use crate::names::TableChange;
 use crate::row::Args;
@@ -58,7 +58,7 @@ pub fn change_table<K: KeyTrait>(
     match change {
         TableChange::Retain => {
             let done = retain(table, args, form, answer);
-            put_done(done, answer);
+            put_walked(done, answer);
         }
         TableChange::ForEachValueMut => {
             for_each_value_mut(table, args.value, form, answer);

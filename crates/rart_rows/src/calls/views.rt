@@ -2,17 +2,11 @@
 
 use crate::answer::Answer;
 use crate::asked::Asked;
+use crate::calls::callbacks::put_walked;
 use crate::form::Form;
 use crate::names::Views;
 use crate::world::Tree;
 use rart::{KeyTrait, LendingKeyView, TreeError};
-
-fn put_walked(walked: Result<(), TreeError>, answer: &mut Answer) {
-    match walked {
-        Ok(()) => answer.end(),
-        Err(error) => answer.error(error),
-    }
-}
 
 fn all_views<K: KeyTrait>(
     tree: &Tree<K>,

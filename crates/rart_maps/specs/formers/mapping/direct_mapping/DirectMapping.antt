@@ -43,8 +43,8 @@ pub the_items_listed : (E X : Type 0) (c : Contents X E) → listed _ (children 
 the_items_listed E X c = sorted.the_items_listed 256 E X c
 
 abbrev fields : Type 0 → Former {0}
-fields E = via (block.the_former (place this) E Used 256) (λ X. Inside X E) (λ X a. a.block) (λ X v. record
-    { block = v })
+fields E = via (block.the_former (place this) E Used 256) (λ X. Inside X E) (λ X a. a.block)
+    (λ X v. record { block = v })
     (λ X a. refl) (λ X v. refl)
 
 numbered-map : {X Y : Type 0} (h : X → Y) (n : ℕ) (os : List (Option X))
