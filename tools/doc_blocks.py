@@ -20,7 +20,8 @@ sys.dont_write_bytecode = True
 
 TOP = pathlib.Path(__file__).resolve().parent.parent
 EXAMPLES = ("rart_first", "rart_uses")
-BELOW = ("rart_parts", "rart_keys", "rart_trie", "rart_shape", "rart_nodes", "rart_laws", "rart", "rart_cidr")
+BELOW = ("rart_block", "rart_parts", "rart_maps", "rart_keys", "rart_trie", "rart_shape", "rart_nodes", "rart_laws",
+         "rart", "rart_cidr")
 
 # Far more seconds than the compiler takes, on a busy machine too.
 SECONDS = 1800

@@ -156,6 +156,7 @@ bool rart32_get(rart32 *map, const uint8_t *key, size_t key_len, uint64_t *value
  * may be of any length.
  *
  * Proved: FindsLongest probe.now map.old.held.tree.pairs (len.old, value.old) (len.new, value.new) result
+ * Proved: IsTrue result → len.new ≤ length probe.now
  * Proved: map.new.held ≡ map.old.held
  */
 bool rart32_longest_prefix(rart32 *map, const uint8_t *probe, size_t probe_len, size_t *len,
@@ -294,6 +295,7 @@ bool rart128_get(rart128 *map, const uint8_t *key, size_t key_len, uint64_t *val
  * may be of any length.
  *
  * Proved: FindsLongest probe.now map.old.held.tree.pairs (len.old, value.old) (len.new, value.new) result
+ * Proved: IsTrue result → len.new ≤ length probe.now
  * Proved: map.new.held ≡ map.old.held
  */
 bool rart128_longest_prefix(rart128 *map, const uint8_t *probe, size_t probe_len, size_t *len,

@@ -31,6 +31,7 @@ mod iter;
 mod key;
 mod map;
 mod map_iter;
+mod slab;
 #[allow(missing_docs)]
 mod sys;
 mod u64_map;

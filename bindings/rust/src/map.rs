@@ -4,6 +4,7 @@ use crate::entry::{Entry, OccupiedEntry, VacantEntry};
 use crate::error::Error;
 use crate::key::Key;
 use crate::map_iter::{IntoIter, MapIter};
+use crate::slab::Slab;
 use crate::u64_map::{Stats, U64Map};
 use crate::width::{W32, Width};
 use std::fmt;
@@ -25,8 +26,7 @@ use std::ops::{Index, RangeBounds};
 /// ```
 pub struct Map<T, W: Width = W32> {
     places: U64Map<W>,
-    values: Vec<Option<T>>,
-    free: Vec<usize>,
+    values: Slab<T>,
 }
 
 impl<T> Map<T> {
@@ -39,7 +39,7 @@ impl<T> Map<T> {
 impl<T, W: Width> Map<T, W> {
     /// Creates an empty map. Allocates nothing.
     pub const fn with_width() -> Map<T, W> {
-        Map { places: U64Map::new(), values: Vec::new(), free: Vec::new() }
+        Map { places: U64Map::new(), values: Slab::new() }
     }
 
     /// Returns the number of pairs.
@@ -67,39 +67,23 @@ impl<T, W: Width> Map<T, W> {
     ///
     /// If the key is too long, an allocation fails or the map is full; with `value`.
     pub fn try_insert(&mut self, key: impl AsRef<[u8]>, value: T) -> Result<Option<T>, (Error, T)> {
-        let place = self.free_place();
+        let place = self.values.free_place();
         match self.places.insert_new(key, place as u64) {
             Ok(None) => {
-                self.fill(place, value);
+                self.values.fill(place, value);
                 Ok(None)
             }
-            Ok(Some(stored)) => Ok(self.values[stored as usize].replace(value)),
+            Ok(Some(stored)) => Ok(Some(std::mem::replace(self.values.get_mut(stored as usize), value))),
             Err(error) => Err((error, value)),
         }
     }
 
-    /// Returns a place for a value, which [`fill`](Self::fill) then takes. There may be one more than there are values.
-    fn free_place(&mut self) -> usize {
-        if let Some(place) = self.free.last() {
-            return *place;
-        }
-        self.values.push(None);
-        self.free.push(self.values.len() - 1);
-        self.values.len() - 1
-    }
-
-    fn fill(&mut self, place: usize, value: T) {
-        let taken = self.free.pop();
-        debug_assert_eq!(taken, Some(place));
-        self.values[place] = Some(value);
-    }
-
     /// Inserts a value at a new key. Returns its place.
     pub(crate) fn insert_vacant(&mut self, key: &[u8], value: T) -> Result<usize, (Error, T)> {
-        let place = self.free_place();
+        let place = self.values.free_place();
         match self.places.insert_new(key, place as u64) {
             Ok(_) => {
-                self.fill(place, value);
+                self.values.fill(place, value);
                 Ok(place)
             }
             Err(error) => Err((error, value)),
@@ -111,11 +95,11 @@ impl<T, W: Width> Map<T, W> {
     }
 
     pub(crate) fn value_at(&self, place: u64) -> &T {
-        self.values[place as usize].as_ref().expect("a stored place has a value")
+        self.values.get(place)
     }
 
     pub(crate) fn value_at_mut(&mut self, place: usize) -> &mut T {
-        self.values[place].as_mut().expect("a stored place has a value")
+        self.values.get_mut(place)
     }
 
     /// Returns a reference to the value at `key`.
@@ -158,20 +142,14 @@ impl<T, W: Width> Map<T, W> {
     ///
     /// [`Error::Memory`] if the parent node must shrink and the allocation fails.
     pub fn try_remove(&mut self, key: impl AsRef<[u8]>) -> Result<Option<T>, Error> {
-        self.free.reserve(1);
+        self.values.reserve_free();
         let place = self.places.try_remove(key)?;
-        Ok(place.and_then(|place| self.take(place as usize)))
-    }
-
-    fn take(&mut self, place: usize) -> Option<T> {
-        self.free.push(place);
-        self.values[place].take()
+        Ok(place.and_then(|place| self.values.take(place as usize)))
     }
 
     /// Removes all pairs.
     pub fn clear(&mut self) {
         self.places.clear();
-        self.free.clear();
         self.values.clear();
     }
 
@@ -223,7 +201,8 @@ impl<T, W: Width> Map<T, W> {
         MapIter::new(self, self.places.iter())
     }
 
-    /// Returns an iterator over the pairs whose key is in a range, ascending. A range that ends below its start has none.
+    /// Returns an iterator over the pairs whose key is in a range, ascending. A range that ends below its start has
+    /// none.
     pub fn range<Q: AsRef<[u8]> + ?Sized>(&self, range: impl RangeBounds<Q>) -> MapIter<'_, T, W> {
         MapIter::new(self, self.places.range(range))
     }

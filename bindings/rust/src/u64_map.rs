@@ -40,8 +40,8 @@ pub struct Stats {
 /// assert_eq!(routes.longest_prefix(&[10, 17, 2, 3]), Some((&[10][..], 1)));
 /// ```
 pub struct U64Map<W: Width = W32> {
-    // The library takes each map by `*mut`, and a look-up leaves the same map in its handle. One call at a time uses it,
-    // since the type is not `Sync`.
+    // The library takes each map by `*mut`, and a look-up leaves the same map in its handle. One call at a time uses
+    // it, since the type is not `Sync`.
     handle: UnsafeCell<W::Handle>,
 }
 
@@ -55,8 +55,8 @@ impl<W: Width> U64Map<W> {
         U64Map { handle: UnsafeCell::new(W::EMPTY) }
     }
 
-    /// Makes the map of pairs whose keys ascend; of equal keys the last pair stays. Each node is made once, so this takes
-    /// less time than insertions.
+    /// Makes the map of pairs whose keys ascend; of equal keys the last pair stays. Each node is made once, so this
+    /// takes less time than insertions.
     ///
     /// ```
     /// use rart_proved::{LoadError, U64Map};
@@ -294,7 +294,8 @@ impl<W: Width> U64Map<W> {
         Iter::new(self, End::Open, End::Open)
     }
 
-    /// Returns an iterator over the pairs whose key is in a range, ascending. A range that ends below its start has none.
+    /// Returns an iterator over the pairs whose key is in a range, ascending. A range that ends below its start has
+    /// none.
     ///
     /// ```
     /// use rart_proved::U64Map;
@@ -316,8 +317,8 @@ impl<W: Width> U64Map<W> {
         Iter::new(self, start, end)
     }
 
-    /// Writes pairs within two bounds to `out`, from the front or from the back. Returns their number, and whether pairs
-    /// are left.
+    /// Writes pairs within two bounds to `out`, from the front or from the back. Returns their number, and whether
+    /// pairs are left.
     pub(crate) fn batch(
         &self,
         start: &End<W>,

@@ -10,11 +10,11 @@ pub trait Width: sealed::Calls {
     const MAX_KEY: usize;
 }
 
-/// Keys of at most 32 bytes. A pair takes about 145 bytes.
+/// Keys of at most 32 bytes. A pair takes about 133 bytes.
 #[derive(Clone, Copy, Debug)]
 pub enum W32 {}
 
-/// Keys of at most 128 bytes. A pair takes about 351 bytes.
+/// Keys of at most 128 bytes. A pair takes about 340 bytes.
 #[derive(Clone, Copy, Debug)]
 pub enum W128 {}
 

@@ -7,22 +7,13 @@ use std::collections::BTreeMap;
 use std::ops::Bound;
 use std::rc::Rc;
 
-/// SplitMix64.
-struct Random(u64);
+mod random;
+
+use random::{Random, number};
 
 impl Random {
-    fn next(&mut self) -> u64 {
-        self.0 = self.0.wrapping_add(0x9E37_79B9_7F4A_7C15);
-        let mixed = (self.0 ^ (self.0 >> 30)).wrapping_mul(0xBF58_476D_1CE4_E5B9);
-        let mixed = (mixed ^ (mixed >> 27)).wrapping_mul(0x94D0_49BB_1331_11EB);
-        mixed ^ (mixed >> 31)
-    }
-
-    fn below(&mut self, end: u64) -> u64 {
-        self.next() % end
-    }
-
-    /// Returns a key of at most `longest` bytes: over few letters, so that keys share prefixes, or over the extreme bytes.
+    /// Returns a key of at most `longest` bytes: over few letters, so that keys share prefixes, or over the extreme
+    /// bytes.
     fn key(&mut self, longest: u64) -> Vec<u8> {
         let len = self.below(longest + 1);
         match self.below(5) {
@@ -116,7 +107,8 @@ fn play<W: Width>(seed: u64, calls: usize) -> usize {
                     let is_front = random.below(3) > 0;
                     let found = if is_front { pairs.next() } else { pairs.next_back() };
                     let wanted = if is_front { left.pop_front() } else { left.pop_back() };
-                    assert_eq!(found.map(|(key, value)| (key.to_vec(), value)), wanted, "call {call}: {start:?} {end:?}");
+                    let found = found.map(|(key, value)| (key.to_vec(), value));
+                    assert_eq!(found, wanted, "call {call}: {start:?} {end:?}");
                 }
             }
             93..96 => {
@@ -132,7 +124,8 @@ fn play<W: Width>(seed: u64, calls: usize) -> usize {
                 assert_eq!(map.remove_prefix(&key), Ok(before - model.len()));
             }
             97 => {
-                let other: U64Map<W> = model.iter().filter(|_| random.below(9) == 0).map(|(key, value)| (key, *value)).collect();
+                let few = model.iter().filter(|_| random.below(9) == 0);
+                let other: U64Map<W> = few.map(|(key, value)| (key, *value)).collect();
                 if random.below(50) == 0 {
                     assert_eq!(map.intersect_count(&other), other.len());
                 }
@@ -167,12 +160,14 @@ fn play<W: Width>(seed: u64, calls: usize) -> usize {
 
 #[test]
 fn random_calls() {
-    let number = |name, default| std::env::var(name).map_or(default, |number| number.parse().expect("a number"));
     let calls = number("RART_CALLS", if cfg!(debug_assertions) { 100_000 } else { 1_000_000 });
     let first = number("RART_SEED", 0) as u64;
     let rounds = 10;
     let calls_of_round = calls / rounds as usize;
-    let round = |seed| if seed % 2 == 0 { play::<W32>(seed, calls_of_round) } else { play::<W128>(seed, calls_of_round) };
+    let round = |seed| match seed % 2 {
+        0 => play::<W32>(seed, calls_of_round),
+        _ => play::<W128>(seed, calls_of_round),
+    };
     let most = (first..first + rounds).map(round).max();
     println!("{calls} calls, at most {} pairs", most.unwrap_or(0));
 }

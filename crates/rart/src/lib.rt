@@ -35,9 +35,10 @@ pub use crate::walks::iter::{Iter, PrefixMatchIter, SeenIter, ValuesIter};
 pub use crate::walks::range::{Range, SeenRange};
 pub use crate::walks::{iter, range};
 pub use rart_keys::{ArrPartial, ArrayKey, KeyTrait, Partial, keys, partials};
+pub use rart_maps::mapping;
 pub use rart_nodes::node::{VisitControl, VisitError};
 pub use rart_nodes::{
     Count, LendingKeyBytes, LendingKeyView, NotInserted, Paired, Refused, Seen, Slot, SlotUpdate,
     UpdateError, Visits, node,
 };
-pub use rart_parts::{TreeError, mapping, utils};
+pub use rart_parts::{TreeError, utils};

@@ -10,6 +10,8 @@ mod by_bytes;
 mod callbacks;
 pub(crate) mod descending;
 pub mod iter;
+mod nearest;
 mod prefixes;
 pub mod range;
+mod try_views;
 mod views;

@@ -1,3 +1,4 @@
+pub mod CodeSetLemmas
 pub mod EditLemmas
 pub mod LoanLemmas
 pub mod OneLemmas

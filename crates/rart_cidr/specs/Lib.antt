@@ -1,5 +1,7 @@
 pub mod Advances
 pub mod Bits
+pub mod CodeLoans
+pub mod CodeSets
 pub mod Codes
 pub mod Edits
 pub mod Fields

@@ -7,4 +7,4 @@ use Rattle.rart_cidr.specs.declared.stride.Targets.TheVariants.{Empty, One, Many
 abbrev pub pairs_of : {T : Type 0} → Targets T → List (List ℕ × T)
 pairs_of Empty = []
 pairs_of (One c t) = (c ∷ [], t) ∷ []
-pairs_of (Many tree) = tree.value.pairs
+pairs_of (Many map) = map.value

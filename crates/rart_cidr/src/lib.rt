@@ -5,6 +5,7 @@
 
 mod bits;
 pub mod cidr;
+mod code_map;
 mod coded_network;
 mod stride;
 pub mod table;

@@ -5,7 +5,6 @@
 ghost use Rattle.std.specs.Prelude.{◌≡◌, ◌≢◌, ◌<◌, ◌≤◌, [], ◌∷◌, length, Some, None, option_map, IfOk, IfErr};
 ghost use Rattle.std.specs.Borrow.{sem};
 ghost use Rattle.std.specs.Option.{option_copied, option_copied_mut};
-ghost use Rattle.rart_keys.specs.ArrayKeyBytes.{array_key_bytes};
 ghost use Rattle.rart_keys.specs.SortedMap.{IsAscending, lookup, put};
 ghost use Rattle.rart.specs.Edits.{Inserts, Removes};
 ghost use Rattle.rart.specs.Refusals.{MayRefuseInsert};
@@ -14,7 +13,8 @@ ghost use Rattle.rart_cidr.specs.Routes.{IsCode, IsLongestIn, IsShortestIn};
 ghost use Rattle.rart_cidr.specs.Walks.{IsCodeLess, IsNextIn};
 
 use crate::bits::{code_after, code_len, code_of};
-use rart::{AdaptiveRadixTree, ArrayKey, KeyTrait, Refused, TreeError};
+use crate::code_map::CodeMap;
+use rart::{Refused, TreeError};
 use std::alloc::Global;
 use std::marker::Model;
 use std::mem;
@@ -33,7 +33,7 @@ enum Targets<T> {
     /// One target, at this code.
     One(u8, T),
     /// The targets of a stride that has had two or more.
-    Many(Box<AdaptiveRadixTree<ArrayKey<1>, T>>),
+    Many(Box<CodeMap<T>>),
 }
 
 impl<T> Model for Stride<T> {
@@ -49,8 +49,9 @@ impl<T> Targets<T> {
     ghost use Rattle.rart_cidr.specs.Loans.{lends_at};
     ghost use Rattle.rart_cidr.specs.Targets.{pairs_of};
 
-    // Returns a mutable reference to the target at `code`.
+    // Returns a mutable reference to the target at `code`, which must be stored.
     fn get_stored_mut(&mut self, code: u8) -> Option<&mut T>
+        requires stored { lookup (code ∷ []) (pairs_of self.old) ≢ None }
         ensures* writes_back { sem 𝓛 (lends_at T.row self.entry code result) }
         ensures value { option_copied_mut result ≡ lookup (code ∷ []) (pairs_of self.old) }
     {
@@ -62,67 +63,57 @@ impl<T> Targets<T> {
         match self {
             Targets::Empty => None,
             Targets::One(_, target) => Some(target),
-            Targets::Many(tree) => tree.get_mut(key_of(code)),
+            Targets::Many(map) => map.get_stored_mut(code),
         }
     }
 }
 
-fn key_of(code: u8) -> ArrayKey<1>
-    ensures { array_key_bytes result ≡ code ∷ [] }
-{
-    ArrayKey::<1>::new_from_slice(&[code])
-}
-
-// Returns a tree of one target, on the heap. If the allocation fails, returns the target.
-fn boxed_one<T: Drop>(
-    alloc: Global,
-    code: u8,
-    target: T,
-) -> Result<Box<AdaptiveRadixTree<ArrayKey<1>, T>>, T>
-    ensures ok { IfOk result (λ tree. tree.value.pairs ≡ (code ∷ [], target) ∷ []) }
+// Returns a map of one target, on the heap. If the allocation fails, returns the target.
+fn boxed_one<T: Drop>(alloc: Global, code: u8, target: T) -> Result<Box<CodeMap<T>>, T>
+    ensures ok { IfOk result (λ map. map.value ≡ (code ∷ [], target) ∷ []) }
     ensures returned { IfErr result (λ back. back ≡ target) }
 {
-    match Box::new(alloc, AdaptiveRadixTree::new(alloc)) {
-        Ok(mut tree) => match tree.insert_k(&key_of(code), target) {
-            Ok(_) => Ok(tree),
+    match Box::new(alloc, CodeMap::new(alloc)) {
+        Ok(mut map) => match map.insert(code, target) {
+            Ok(_) => Ok(map),
             Err(_) => unreachable!(),
         },
         Err(_) => Err(target),
     }
 }
 
-// Returns the only target of a tree, which must be stored at `code`.
-fn unboxed_one<T: Drop>(tree: Box<AdaptiveRadixTree<ArrayKey<1>, T>>, code: u8) -> T
-    requires stored { lookup (code ∷ []) tree.value.pairs ≢ None }
-    requires only { length tree.value.pairs ≡ 1 }
-    ensures { Some result ≡ lookup (code ∷ []) tree.value.pairs }
+// Returns the only target of a map, which must be stored at `code`.
+fn unboxed_one<T: Drop>(map: Box<CodeMap<T>>, code: u8) -> T
+    requires stored { lookup (code ∷ []) map.value ≢ None }
+    requires only { length map.value ≡ 1 }
+    ensures { Some result ≡ lookup (code ∷ []) map.value }
 {
-    let mut tree = tree;
-    match tree.remove_k(&key_of(code)) {
+    let mut map = map;
+    match map.remove(code) {
         Ok(Some(target)) => target,
         Ok(None) => unreachable!(),
         Err(_) => unreachable!(),
     }
 }
 
-// Returns a tree of two targets, on the heap. If an allocation fails, returns `first`, and `target` in the error.
+// Returns a map of two targets, on the heap. If an allocation fails, returns `first`, and `target` in the error.
 fn boxed_two<T: Drop>(
     alloc: Global,
     stored: u8,
     first: T,
     code: u8,
     target: T,
-) -> Result<Box<AdaptiveRadixTree<ArrayKey<1>, T>>, (T, Refused<T>)>
+) -> Result<Box<CodeMap<T>>, (T, Refused<T>)>
     requires { code ≢ stored }
-    ensures ok { IfOk result (λ tree. tree.value.pairs
+    ensures ok { IfOk result (λ map. map.value
         ≡ put (code ∷ []) target ((stored ∷ [], first) ∷ [])) }
     ensures first_returned { IfErr result (λ e. e.0 ≡ first) }
     ensures returned { IfErr result (λ e. e.1.value ≡ target) }
     ensures refused { IfErr result (λ e. MayRefuseInsert ((stored ∷ [], first) ∷ []) (code ∷ [])
         e.1.error) }
 {
-    let mut tree = match boxed_one(alloc, stored, first) {
-        Ok(tree) => tree,
+    let mut map = match boxed_one(alloc, stored, first) {
+        Ok(map) => map,
         Err(first) => {
             return Err((
                 first,
@@ -133,26 +124,21 @@ fn boxed_two<T: Drop>(
             ));
         }
     };
-    match tree.insert_k(&key_of(code), target) {
-        Ok(_) => Ok(tree),
-        Err(refused) => Err((unboxed_one(tree, stored), refused)),
+    match map.insert(code, target) {
+        Ok(_) => Ok(map),
+        Err(refused) => Err((unboxed_one(map, stored), refused)),
     }
 }
 
-// Returns what `Stride::longest` does of a boxed map. One call of `get_bytes` alone, so that the compiler inlines it: a
-// look-up in 200,000 routes takes 251 instructions, and 721 with two.
-fn longest_in<T>(
-    tree: &AdaptiveRadixTree<ArrayKey<1>, T>,
-    byte: u8,
-    most: usize,
-) -> Option<(usize, &T)>
+// Returns what `Stride::longest` does of a boxed map.
+fn longest_in<T>(map: &CodeMap<T>, byte: u8, most: usize) -> Option<(usize, &T)>
     requires { most < 8 }
-    ensures { IsLongestIn tree.now.pairs byte most (option_map (λ p. (p.0, p.1.now)) result) }
+    ensures { IsLongestIn map.now byte most (option_map (λ p. (p.0, p.1.now)) result) }
 {
     let mut left = most + 1;
     while left > 0 {
         left -= 1;
-        if let Some(target) = tree.get_bytes(&[code_of(byte, left)]) {
+        if let Some(target) = map.get(code_of(byte, left)) {
             return Some((left, target));
         }
     }
@@ -176,7 +162,7 @@ impl<T> Stride<T> {
         match &self.targets {
             Targets::Empty => 0,
             Targets::One(_, _) => 1,
-            Targets::Many(tree) => tree.len(),
+            Targets::Many(map) => map.len(),
         }
     }
 
@@ -186,7 +172,7 @@ impl<T> Stride<T> {
     {
         match &self.targets {
             Targets::Empty | Targets::One(_, _) => {}
-            Targets::Many(tree) => tree.canonical(),
+            Targets::Many(map) => map.ascends(),
         }
     }
 
@@ -197,12 +183,13 @@ impl<T> Stride<T> {
         match &self.targets {
             Targets::Empty => None,
             Targets::One(stored, target) => { if *stored == code { Some(target) } else { None } }
-            Targets::Many(tree) => tree.get_bytes(&[code]),
+            Targets::Many(map) => map.get(code),
         }
     }
 
     /// Returns a mutable reference to the target at `code`, which must be stored.
     pub fn get_stored_mut(&mut self, code: u8) -> Option<&mut T>
+        requires stored { lookup (code ∷ []) self.old ≢ None }
         ensures* writes_back { sem 𝓛 (lends_target T.row self.entry code result) }
         ensures value { option_copied_mut result ≡ lookup (code ∷ []) self.old }
     {
@@ -213,8 +200,8 @@ impl<T> Stride<T> {
     ///
     /// # Errors
     ///
-    /// [`TreeError::Full`] or [`TreeError::Memory`] if the code is new and the insertion into the tree of targets, or
-    /// the allocation of this tree, fails. The stride is then unchanged, and the error holds `target`.
+    /// [`TreeError::Full`] or [`TreeError::Memory`] if the code is new and the insertion into the map of targets, or
+    /// the allocation of this map, fails. The stride is then unchanged, and the error holds `target`.
     pub fn insert(&mut self, alloc: Global, code: u8, target: T) -> Result<Option<T>, Refused<T>>
     where
         T: Drop,
@@ -231,8 +218,8 @@ impl<T> Stride<T> {
                     return Ok(Some(first));
                 }
                 match boxed_two(alloc, stored, first, code, target) {
-                    Ok(tree) => {
-                        self.targets = Targets::Many(tree);
+                    Ok(map) => {
+                        self.targets = Targets::Many(map);
                         Ok(None)
                     }
                     Err((first, refused)) => {
@@ -241,9 +228,9 @@ impl<T> Stride<T> {
                     }
                 }
             }
-            Targets::Many(mut tree) => {
-                let inserted = tree.insert_k(&key_of(code), target);
-                self.targets = Targets::Many(tree);
+            Targets::Many(mut map) => {
+                let inserted = map.insert(code, target);
+                self.targets = Targets::Many(map);
                 inserted
             }
         }
@@ -269,9 +256,9 @@ impl<T> Stride<T> {
                 self.targets = Targets::One(stored, target);
                 Ok(None)
             }
-            Targets::Many(mut tree) => {
-                let removed = tree.remove_k(&key_of(code));
-                self.targets = Targets::Many(tree);
+            Targets::Many(mut map) => {
+                let removed = map.remove(code);
+                self.targets = Targets::Many(map);
                 removed
             }
         }
@@ -308,7 +295,7 @@ impl<T> Stride<T> {
                     None
                 }
             }
-            Targets::Many(tree) => longest_in(tree, byte, most),
+            Targets::Many(map) => longest_in(map, byte, most),
         }
     }
 

@@ -1,5 +1,5 @@
 //! Targets by IPv6 network.
-ghost use Rattle.std.specs.Prelude.{◌≡◌, ◌≢◌, ◌≤◌, ◌+◌, ◌↔◌, [], length, option_map, IsTrue, None};
+ghost use Rattle.std.specs.Prelude.{◌≡◌, ◌≢◌, ◌≤◌, ◌+◌, ◌↔◌, [], length, option_map, is_some, IsTrue, None};
 ghost use Rattle.std.specs.Borrow.{sem};
 ghost use Rattle.std.specs.Net.Addr.{ipv6_octets};
 ghost use Rattle.std.specs.Option.{option_copied, option_copied_mut};
@@ -91,6 +91,13 @@ impl<T> CidrTable6<T> {
         ensures { option_copied result ≡ lookup (cidr_bits net.now) self.now }
     {
         self.routes.get(net.octets(), usize::from(net.len()))
+    }
+
+    /// Returns whether exactly `net` has a route.
+    pub fn contains_key(&self, net: &Cidr6) -> bool
+        ensures { result ≡ is_some (lookup (cidr_bits net.now) self.now) }
+    {
+        self.get(net).is_some()
     }
 
     /// Returns a mutable reference to the target of exactly `net`.

@@ -84,7 +84,9 @@ fn replies_of(table: &mut Table, net: &Cidr4, row: Row) -> bool {
             Err(_) => false,
         },
         (Ask::Write(_, target), Reply::Value(wanted)) => writes(table, net, target, wanted),
-        (Ask::Get(_), Reply::Value(wanted)) => table.get(net).copied() == wanted,
+        (Ask::Get(_), Reply::Value(wanted)) => {
+            table.get(net).copied() == wanted && table.contains_key(net) == wanted.is_some()
+        }
         (Ask::Covers(_), Reply::Route(route)) => covers(table, net, Some(route)),
         (Ask::Covers(_), Reply::None) => covers(table, net, None),
         (Ask::CoversAll(_), Reply::Routes(routes)) => covers_all(table, net, routes),

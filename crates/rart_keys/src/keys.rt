@@ -43,6 +43,20 @@ pub trait KeyTrait: Eq + Ord {
             (length (bytes self.now) + length (Self.PartialType.bytes partial.now)) }
         ensures { bytes result ≡ bytes self.now ++ Self.PartialType.bytes partial.now };
 
+    /// Returns the key with the bytes of `first`, followed by those of `second`. The sum of the lengths must be within
+    /// the maximum.
+    // Walks make their keys with it. A key type that can write both parts in place has a body of its own.
+    fn joined(first: &[u8], second: &[u8]) -> Self
+    where
+        Self: Sized,
+        requires { IsWithin MAXIMUM_SIZE (length first.now + length second.now) }
+        ensures { bytes result ≡ first.now ++ second.now }
+    {
+        let start = Self::PartialType::from_slice(first);
+        let rest = Self::PartialType::from_slice(second);
+        Self::new_from_partial(&start.partial_extended_with(&rest))
+    }
+
     /// Returns the key of the first `at_depth` bytes. `at_depth` must be at most the length.
     fn truncate(&self, at_depth: usize) -> Self
         requires { at_depth ≤ length (bytes self.now) }

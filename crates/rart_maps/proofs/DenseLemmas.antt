@@ -1,5 +1,5 @@
 -- Children in slots without gaps through the calls of an indexed map.
-use Rattle.std.proofs.Common.{◌≡◌, ◌≢◌, ℕ, zero, suc, ◌<◌, ◌≤◌, ◌+◌, true, cond, eqb, List, [], ◌∷◌, ◌++◌, Option}
+use Rattle.std.proofs.Common.{◌≡◌, ◌≢◌, ℕ, zero, suc, ◌<◌, ◌≤◌, ◌+◌, true, cond, List, [], ◌∷◌, ◌++◌, Option}
 use Rattle.std.proofs.Common.{Some, None, length, get_or, set, replicate, sym, ap, ◌∙◌, refl, arith, ⊎_elim, subst}
 use Rattle.std.specs.List.{zip}
 use Rattle.std.proofs.lemmas.Bool.{eq-eqb, ne_eqb, cases_lt, lt-ltb, le-ltb}
@@ -10,15 +10,15 @@ use Rattle.std.proofs.lemmas.List.{get_or_past}
 use Rattle.std.proofs.Math.ListN.{get_or-append}
 use Rattle.rart_parts.specs.Entries.{child_at, with_entry, replaced_at, sorted_entries, with_another}
 use Rattle.rart_parts.specs.Entries.{BytesAscend, entries_above}
-use Rattle.rart_parts.specs.Indexed.{names, byte_of, with_bytes, by_slots, IsIndex}
+use Rattle.rart_maps.specs.Indexed.{names, byte_of, with_bytes, by_slots, IsIndex}
 use Rattle.rart_parts.specs.Places.{is_used, numbered_values}
 use Rattle.rart_parts.proofs.entries.EntryLemmas.{same_lookups, child_at-with_entry}
 use Rattle.rart_parts.proofs.entries.EntryLemmas.{child_at-replaced, with_entry-ascends}
 use Rattle.rart_parts.proofs.entries.EntryLemmas.{replaced-ascends}
 use Rattle.rart_parts.proofs.PlaceLemmas.{used_place}
-use Rattle.rart_parts.proofs.maps.IndexLemmas.{indexed_none, indexed_some, map_of_ascends, by_index}
-use Rattle.rart_parts.proofs.maps.IndexWalk.{walk_is}
-use Rattle.rart_parts.proofs.maps.Zipped.{length_zipped}
+use Rattle.rart_maps.proofs.IndexLemmas.{indexed_none, indexed_some, map_of_ascends, by_index}
+use Rattle.rart_maps.proofs.IndexWalk.{walk_is}
+use Rattle.rart_maps.proofs.Zipped.{length_zipped}
 use Rattle.rart_maps.specs.Contents.{Contents}
 use Rattle.rart_maps.specs.Dense.{IsDense, AreSlotsBelow, filled}
 
@@ -138,15 +138,6 @@ pub nothing_yet : (X : Type 0) {E : Type 0} (e : E) (ks : List ℕ)
 nothing_yet X e [] = refl
 nothing_yet X e (k ∷ ks) = refl
 
--- an entry of an index after a write
-pub read_set : (at : List (Option ℕ)) (i j : ℕ) (o : Option ℕ) → i < length at
-    → get_or (set at i o) j None ≡ cond (eqb i j) o (get_or at j None)
-read_set at i j o h = ⊎_elim
-    (λ t. ap (λ m. get_or (set at i o) m None) (sym t.1) ∙ get_or-set_same at i o None h
-    ∙ ap (λ c. cond c o (get_or at j None)) (sym t.0))
-    (λ t. get_or-set_other at i j o None (λ e. t.1 (sym e)) ∙ ap (λ c. cond c o (get_or at j None)) (sym t.0))
-    (eqb_tells i j)
-
 pub length-sorted : {X : Type 0} (es : List (ℕ × X)) → length (sorted_entries es) ≡ length es
 length-sorted [] = refl
 length-sorted (e ∷ es) = length-with_another e.0 e.1 (sorted_entries es) ∙ ap suc (length-sorted es)
@@ -159,9 +150,6 @@ length-sorted (e ∷ es) = length-with_another e.0 e.1 (sorted_entries es) ∙ a
 module _ {X : Type 0} {width : ℕ} {at : List (Option ℕ)} {bs : List ℕ} {vs : List X} (d : IsDense width at bs vs) where
   pub fits : length vs ≤ length bs
   fits = omega (arith, d.full, d.few)
-
-  pub same_slot : (p q : ℕ) → p < length vs → q < length vs → get_or bs p 0 ≡ get_or bs q 0 → p ≡ q
-  same_slot p q l m e = some_same (sym (d.is_named p l) ∙ ap (λ k. get_or at k None) e ∙ d.is_named q m)
 
   byte_at : (p : ℕ) → p < length vs → byte_of at p ≡ get_or bs p 0
   byte_at p l = byte_of_only at (get_or bs p 0) p (d.is_named p l) (λ j e. sym (d.has_byte j p e))

@@ -6,7 +6,7 @@ use Rattle.std.proofs.lemmas.Bool.Decides.{eqb_tells}
 use Rattle.std.proofs.lemmas.List.{length-set, length-append, get_or-set_same, get_or-set_other}
 use Rattle.rart_parts.specs.Entries.{child_at, without_byte, sorted_entries}
 use Rattle.rart_parts.proofs.entries.EntryLemmas.{same_lookups, child_at-without_byte, without_byte-ascends}
-use Rattle.rart_parts.proofs.maps.IndexLemmas.{by_index}
+use Rattle.rart_maps.proofs.IndexLemmas.{by_index}
 use Rattle.rart_maps.specs.Dense.{IsDense, filled}
 use Rattle.rart_maps.proofs.DenseLemmas.{filled_front, filled_last, filled_set, filled_set_other, filled_at}
 use Rattle.rart_maps.proofs.DenseLemmas.{dense_ascends, dense_none, dense_some, byte_within}

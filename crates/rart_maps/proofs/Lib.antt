@@ -1,5 +1,16 @@
+pub mod AnswerReadings
+pub mod ByteIndexLemmas
 pub mod DenseLemmas
 pub mod DenseRemovals
+pub mod DirectLemmas
 pub mod DirectPlaces
+pub mod FirstAbove
+pub mod IndexLemmas
+pub mod IndexWalk
+pub mod KeyedLemmas
+pub mod MoveLemmas
 pub mod SortedEdits
+pub mod SortedLemmas
 pub mod SortedSearch
+pub mod SplitLemmas
+pub mod Zipped

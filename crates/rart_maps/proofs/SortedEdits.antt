@@ -7,9 +7,9 @@ use Rattle.std.proofs.lemmas.List.Edits.{insert_end, length-insert, length-remov
 use Rattle.rart_block.specs.Contents.{Contents}
 use Rattle.rart_parts.specs.Entries.{child_at, with_entry, without_byte}
 use Rattle.rart_parts.specs.Keys.{IsFirstAbove}
-use Rattle.rart_parts.specs.SortedKeyed.{IsSortedKeyed}
-use Rattle.rart_parts.proofs.maps.SortedLemmas.{fits, added, deleted, put_in, padded_more, padded_less}
-use Rattle.rart_parts.proofs.maps.Zipped.{removed}
+use Rattle.rart_maps.specs.SortedKeyed.{IsSortedKeyed}
+use Rattle.rart_maps.proofs.SortedLemmas.{fits, added, deleted, put_in, padded_more, padded_less}
+use Rattle.rart_maps.proofs.Zipped.{removed}
 
 -- what is true of a block is true of the same block
 pub kept_by : {E X : Type 0} {width : ℕ} {b d : Contents E (List ℕ)

@@ -7,9 +7,9 @@ use Rattle.rart_maps.specs.Bounds.{IsFirstNotBelow}
 use Rattle.std.specs.List.{zip}
 use Rattle.rart_parts.specs.Entries.{child_at, replaced_at}
 use Rattle.rart_parts.specs.Keys.{IsAscendingBelow, IsPlaceOf}
-use Rattle.rart_parts.specs.SortedKeyed.{IsSortedKeyed, IsPadded}
-use Rattle.rart_parts.proofs.maps.Zipped.{child_found, child_none, replaced_found, set_zip}
-use Rattle.rart_parts.proofs.maps.SortedLemmas.{fits, ordered}
+use Rattle.rart_maps.specs.SortedKeyed.{IsSortedKeyed, IsPadded}
+use Rattle.rart_maps.proofs.Zipped.{child_found, child_none, replaced_found, set_zip}
+use Rattle.rart_maps.proofs.SortedLemmas.{fits, ordered}
 
 -- the keys read are those of the map
 pub sorted_at : {X : Type 0} {width : ℕ} {ks ks' : List ℕ} {vs : List X} → ks' ≡ ks → IsSortedKeyed width ks vs width

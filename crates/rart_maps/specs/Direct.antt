@@ -1,6 +1,11 @@
--- The walk over the places of a direct mapping.
-use Rattle.std.specs.Prelude.{◌≡◌, ℕ, ◌<◌, true, List, [], ◌∷◌, Option, None, Some, slice_index_or}
-use Rattle.rart_parts.specs.Places.{is_used}
+-- The places of a direct mapping, and the walk over them.
+use Rattle.std.specs.Prelude.{◌≡◌, ℕ, ◌<◌, true, List, [], ◌∷◌, length, Option, None, Some, slice_index_or}
+use Rattle.rart_parts.specs.Places.{is_used, numbered_values}
+
+-- a place for each byte, and the number of those that have a child
+pub record IsDirect {X : Type 0} (places : List (Option X)) (count : ℕ) : Type 0 where
+  pub full : length places ≡ 256
+  pub counted : count ≡ length (numbered_values 0 places)
 
 -- what a place has, as an entry before others
 abbrev pub with_place : {X : Type 0} → ℕ → Option X → List (ℕ × X) → List (ℕ × X)

@@ -1,6 +1,11 @@
 pub mod Bounds
+pub mod ByteIndex
 pub mod Contents
 pub mod Dense
 pub mod Direct
+pub mod EntryShapes
+pub mod Indexed
+pub mod Keyed
 pub mod Loans
+pub mod SortedKeyed
 pub mod formers

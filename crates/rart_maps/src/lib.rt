@@ -1,7 +1,10 @@
-//! Maps from bytes to children in three kinds, each one pointer to one allocation that also stores an extra value.
+//! Maps from bytes to children in four kinds: sorted, by an index, with a slot for each byte, and in keyed slots.
 //!
-//! A contract reads a map as its entries and its extra value. A conversion moves all children and empties its source;
-//! both keep their extra values. Only `new`, `with_extra` and the `from_*` conversions allocate, once each.
+//! The first three are each one pointer to one allocation that also stores an extra value; a contract reads such a map
+//! as its entries and its extra value. [`mapping::KeyedMapping`] is over a vector, and has no extra value.
+//!
+//! A conversion moves all children and empties its source; both keep their extra values. A conversion that fails leaves
+//! its source unchanged. Only `new`, `with_extra` and the `from_*` conversions allocate, once each.
 #![tactic(auto)]
 
 pub mod mapping;

@@ -1,7 +1,9 @@
-//! Maps from bytes to children, in kinds of storage, which a contract reads as entries ascending by byte.
+//! Maps from bytes to children, in four kinds of storage, which a contract reads as entries ascending by byte.
 
+mod byte_index;
 pub mod direct_mapping;
 pub mod indexed_mapping;
+pub mod keyed_mapping;
 pub mod sorted_keyed_mapping;
 
 ghost use Rattle.std.specs.Prelude.{◌≡◌, ℕ, ◌<◌, ◌≤◌, List, length, OnSome, None};
@@ -12,6 +14,7 @@ ghost use Rattle.rart_parts.specs.Entries.{BytesAscend, child_at, with_entry, wi
 
 pub use direct_mapping::{DirectMapping, DirectMappingIntoIter, DirectMappingIter};
 pub use indexed_mapping::{IndexedMapping, IndexedMappingIntoIter, IndexedMappingIter};
+pub use keyed_mapping::KeyedMapping;
 pub use sorted_keyed_mapping::{
     SortedKeyedMapping, SortedKeyedMappingIntoIter, SortedKeyedMappingIter,
 };

@@ -1,9 +1,11 @@
 //! Conversions of maps: whole and in order, with the source emptied; refused, the source is unchanged.
 
 use crate::mappings::{fill, lends};
-use rart_maps::mapping::{DirectMapping, IndexedMapping, NodeMapping, SortedKeyedMapping};
+use rart_maps::mapping::{
+    DirectMapping, IndexedMapping, KeyedMapping, NodeMapping, SortedKeyedMapping,
+};
 use rart_parts::TreeError;
-use rart_parts::utils::bitset::Bitset16;
+use rart_parts::utils::bitset::{Bitset16, Bitset32};
 use rart_test_tools::refusals::{part_ends, refuse, was_refused};
 use std::alloc::Global;
 use std::test::Fail;
@@ -11,6 +13,10 @@ use std::test::Fail;
 type Sorted16 = SortedKeyedMapping<u8, 16>;
 
 type Sorted24 = SortedKeyedMapping<u8, 24>;
+
+type Keyed16 = KeyedMapping<u8, 16, Bitset16<1>>;
+
+type Keyed32 = KeyedMapping<u8, 32, Bitset32<1>>;
 
 type Indexed48 = IndexedMapping<u8, 48, Bitset16<3>>;
 
@@ -72,6 +78,26 @@ impl Made for Sorted24 {
     }
 }
 
+impl Made for Keyed16 {
+    fn made(alloc: Global) -> Result<Self, TreeError> {
+        Keyed16::new(alloc)
+    }
+
+    fn is_in_order(&self) -> bool {
+        true
+    }
+}
+
+impl Made for Keyed32 {
+    fn made(alloc: Global) -> Result<Self, TreeError> {
+        Keyed32::new(alloc)
+    }
+
+    fn is_in_order(&self) -> bool {
+        true
+    }
+}
+
 impl Made for Indexed48 {
     fn made(alloc: Global) -> Result<Self, TreeError> {
         Indexed48::new(alloc)
@@ -124,12 +150,27 @@ impl From16<Indexed48> for Sorted16 {
     }
 }
 
+impl From16<Keyed16> for Keyed32 {
+    fn converted(alloc: Global, source: &mut Keyed16) -> Result<Self, TreeError> {
+        Keyed32::from_resized_grow(alloc, source)
+    }
+}
+
 impl From16<Sorted16> for Indexed48 {
     fn converted(alloc: Global, source: &mut Sorted16) -> Result<Self, TreeError> {
         if source.num_children() > 16 {
             return Err(TreeError::Full);
         }
         Indexed48::from_sorted_keyed(alloc, source)
+    }
+}
+
+impl From16<Keyed16> for Indexed48 {
+    fn converted(alloc: Global, source: &mut Keyed16) -> Result<Self, TreeError> {
+        if source.num_children() > 16 {
+            return Err(TreeError::Full);
+        }
+        Indexed48::from_keyed(alloc, source)
     }
 }
 
@@ -172,7 +213,7 @@ fn new_refused<const W: usize, M: NodeMapping<u8, W> + Made + Drop>(alloc: Globa
 #[test]
 fn new_mappings_refused_in_turn(rt: HostRuntime) {
     let alloc = rt.alloc();
-    let sorted = new_refused::<16, Sorted16>(alloc);
+    let sorted = new_refused::<16, Sorted16>(alloc) && new_refused::<16, Keyed16>(alloc);
     assert!(rt;
         sorted && new_refused::<48, Indexed48>(alloc) && new_refused::<256, Direct256>(alloc)
     );
@@ -229,6 +270,13 @@ fn conversions_of_indexed_and_direct_maps_refused_in_turn_keep_the_children(rt: 
     let indexed = refused_in_turn::<48, 16, Indexed48, Sorted16>(alloc)
         && refused_in_turn::<48, 256, Indexed48, Direct256>(alloc);
     assert!(rt; indexed && refused_in_turn::<256, 48, Direct256, Indexed48>(alloc));
+}
+
+#[test]
+fn conversions_of_keyed_maps_refused_in_turn_keep_the_children(rt: HostRuntime) {
+    let alloc = rt.alloc();
+    let resized = refused_in_turn::<16, 32, Keyed16, Keyed32>(alloc);
+    assert!(rt; resized && refused_in_turn::<16, 48, Keyed16, Indexed48>(alloc));
 }
 
 fn is_empty<const W: usize>(map: &impl NodeMapping<u8, W>) -> bool {

@@ -2,9 +2,11 @@
 ghost use Rattle.std.specs.Iterator.{IsFinite};
 
 use crate::compare::expect_eq;
-use rart_maps::mapping::{DirectMapping, IndexedMapping, NodeMapping, SortedKeyedMapping};
+use rart_maps::mapping::{
+    DirectMapping, IndexedMapping, KeyedMapping, NodeMapping, SortedKeyedMapping,
+};
 use rart_parts::TreeError;
-use rart_parts::utils::bitset::Bitset16;
+use rart_parts::utils::bitset::{Bitset8, Bitset16};
 use rart_test_tools::counted::Counted;
 use rart_test_tools::refusals::{refuse, was_refused};
 use std::alloc::Global;
@@ -97,6 +99,8 @@ static KEY_255: [Row; 8] = [
     (Ask::Seek(255), None, 0),
 ];
 
+type Keyed4 = KeyedMapping<u8, 4, Bitset8<4>>;
+
 pub type Indexed48 = IndexedMapping<u8, 48, Bitset16<3>>;
 
 fn rows_hold_in_both<const W: usize>(map: &mut impl NodeMapping<u8, W>) -> bool {
@@ -119,6 +123,7 @@ fn gives_back<const W: usize, M: NodeMapping<u8, W> + Drop>(
 fn each_map_gives_its_children_back_and_makes_no_request(rt: HostRuntime) {
     let alloc = rt.alloc();
     assert!(rt; gives_back(alloc, SortedKeyedMapping::<u8, 4>::new(alloc)));
+    assert!(rt; gives_back(alloc, Keyed4::new(alloc)));
     assert!(rt; gives_back(alloc, Indexed48::new(alloc)));
     assert!(rt; gives_back(alloc, DirectMapping::<u8>::new(alloc)));
 }
@@ -323,6 +328,15 @@ macro_rules! drops_children {
 fn a_dropped_sorted_map_drops_its_children_once(rt: HostRuntime) -> Result<(), Fail> {
     let drops = Cell::new(0_usize);
     let map: SortedKeyedMapping<Child<'_>, 16> = SortedKeyedMapping::new(rt.alloc())?;
+    let once = drops_children!(map, drops);
+    assert!(rt; once);
+    Ok(())
+}
+
+#[test]
+fn a_dropped_keyed_map_drops_its_children_once(rt: HostRuntime) -> Result<(), Fail> {
+    let drops = Cell::new(0_usize);
+    let map: KeyedMapping<Child<'_>, 16, Bitset16<1>> = KeyedMapping::new(rt.alloc())?;
     let once = drops_children!(map, drops);
     assert!(rt; once);
     Ok(())

@@ -3,6 +3,9 @@ pub mod BoundDescents
 pub mod BoundSteps
 pub mod ComparedEntries
 pub mod DownLemmas
+pub mod EndPaths
 pub mod LevelLemmas
+pub mod NearestLemmas
+pub mod NearestPlaces
 pub mod PotentialLemmas
 pub mod RangeCuts

@@ -9,5 +9,6 @@ pub mod PartLemmas
 pub mod PathLemmas
 pub mod SegmentLemmas
 pub mod ShownCuts
+pub mod TriedViewLemmas
 pub mod WalkLemmas
 pub mod WalkVisits

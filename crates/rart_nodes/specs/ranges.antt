@@ -1,4 +1,5 @@
 pub mod BackWalk
+pub mod Nearest
 pub mod Potential
 pub mod Spans
 pub mod Steps

@@ -9,5 +9,6 @@ pub mod WalkSteps
 pub mod PathParts
 pub mod KeyBuffers
 pub mod Tried
+pub mod TriedViews
 pub mod ViewSegments
 pub mod Viewed

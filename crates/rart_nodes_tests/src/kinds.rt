@@ -1,8 +1,8 @@
 //! The map of the children of each kind of node, read by the map's own calls.
 
 use crate::nodes::{TestNode, fill, leaf};
+use rart_maps::mapping::NodeMapping;
 use rart_nodes::node::ChildMap;
-use rart_parts::mapping::NodeMapping;
 use std::alloc::Global;
 use std::process::Abort;
 

@@ -1,7 +1,5 @@
-pub mod AnswerReadings
 pub mod FreedLemmas
 pub mod NumberedLemmas
 pub mod PlaceLemmas
 pub mod entries
-pub mod maps
 pub mod sets

@@ -275,3 +275,9 @@ free_read [] p e = refl
 free_read (None ∷ os) zero e = refl
 free_read (Some x ∷ os) zero e = absurd (false≢true (sym e))
 free_read (o ∷ os) (suc p) e = free_read os p e
+
+-- a read by an index is one with any other value in default
+pub place_reads : {A : Type 0} (xs : List A) (k : ℕ) (x d : A) → k < length xs → x ≡ get_or xs k x → get_or xs k d ≡ x
+place_reads [] k x d h e = absurd (omega arith)
+place_reads (y ∷ xs) zero x d h e = sym e
+place_reads (y ∷ xs) (suc k) x d h e = place_reads xs k x d (omega arith) e

@@ -1,3 +1,1 @@
 pub mod EntryLemmas
-pub mod MoveLemmas
-pub mod SplitLemmas

@@ -1,14 +1,8 @@
 pub mod BitSets
 pub mod Bits
-pub mod ByteIndex
-pub mod Direct
 pub mod Entries
-pub mod EntryShapes
 pub mod Errors
-pub mod Indexed
-pub mod Keyed
 pub mod Keys
 pub mod Loans
 pub mod Places
-pub mod SortedKeyed
 pub mod formers

@@ -1,2 +1,1 @@
-pub mod mapping
 pub mod utils

@@ -1,10 +1,7 @@
 //! Tests of the parts of nodes.
 
 mod arrays;
-mod bounds;
-mod conversions;
 mod key_search;
-mod mappings;
 mod sets;
 
 use crate::compare::expect_eq;

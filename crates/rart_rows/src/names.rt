@@ -32,6 +32,10 @@ pub enum Look {
     ContainsKey,
     LongestPrefixMatch,
     LongestPrefixValue,
+    FirstAtOrAfter,
+    FirstAfter,
+    LastAtOrBefore,
+    LastBefore,
 }
 
 /// Look-ups of bytes that need not be a key.
@@ -42,6 +46,10 @@ pub enum Probe {
     LongestPrefixMatchBytes,
     LongestPrefixLenBytes,
     LongestPrefixValueBytes,
+    FirstAtOrAfterBytes,
+    FirstAfterBytes,
+    LastAtOrBeforeBytes,
+    LastBeforeBytes,
 }
 
 /// What is read of a whole tree.
@@ -152,6 +160,9 @@ pub enum Views {
     PrefixForEachView,
     ForEachRangeView,
     WithLongestPrefixMatchView,
+    TryForEachView,
+    TryPrefixForEachView,
+    TryForEachRangeView,
 }
 
 /// Runs of calls on keys that differ in their last byte.

@@ -9,7 +9,7 @@ use crate::names::{
 pub type Entry = (&'static str, Call, &'static str);
 
 // Where two names are one call, the second is the word of the program `rart_script`.
-static NAMES: [Entry; 70] = [
+static NAMES: [Entry; 81] = [
     ("get", Call::Look(Look::Get), "k"),
     ("contains_key", Call::Look(Look::ContainsKey), "k"),
     (
@@ -23,6 +23,10 @@ static NAMES: [Entry; 70] = [
         Call::Look(Look::LongestPrefixValue),
         "k",
     ),
+    ("first_at_or_after", Call::Look(Look::FirstAtOrAfter), "k"),
+    ("first_after", Call::Look(Look::FirstAfter), "k"),
+    ("last_at_or_before", Call::Look(Look::LastAtOrBefore), "k"),
+    ("last_before", Call::Look(Look::LastBefore), "k"),
     ("get_bytes", Call::Probe(Probe::GetBytes), "b"),
     (
         "contains_key_bytes",
@@ -42,6 +46,26 @@ static NAMES: [Entry; 70] = [
     (
         "longest_prefix_value_bytes",
         Call::Probe(Probe::LongestPrefixValueBytes),
+        "b",
+    ),
+    (
+        "first_at_or_after_bytes",
+        Call::Probe(Probe::FirstAtOrAfterBytes),
+        "b",
+    ),
+    (
+        "first_after_bytes",
+        Call::Probe(Probe::FirstAfterBytes),
+        "b",
+    ),
+    (
+        "last_at_or_before_bytes",
+        Call::Probe(Probe::LastAtOrBeforeBytes),
+        "b",
+    ),
+    (
+        "last_before_bytes",
+        Call::Probe(Probe::LastBeforeBytes),
         "b",
     ),
     ("canonical", Call::Whole(Whole::Canonical), ""),
@@ -168,6 +192,17 @@ static NAMES: [Entry; 70] = [
         "with_longest_prefix_match_view",
         Call::Views(Views::WithLongestPrefixMatchView),
         "k",
+    ),
+    ("try_for_each_view", Call::Views(Views::TryForEachView), "c"),
+    (
+        "try_prefix_for_each_view",
+        Call::Views(Views::TryPrefixForEachView),
+        "kc",
+    ),
+    (
+        "try_for_each_range_view",
+        Call::Views(Views::TryForEachRangeView),
+        "sec",
     ),
     ("fill", Call::Group(Group::Fill), "bvw"),
     ("empty_out", Call::Group(Group::EmptyOut), "bvw"),

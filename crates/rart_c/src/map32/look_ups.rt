@@ -1,5 +1,5 @@
 //! Look-ups, and numbers of pairs.
-ghost use Rattle.std.specs.Prelude.{◌≡◌, length};
+ghost use Rattle.std.specs.Prelude.{◌≡◌, ◌≤◌, length, IsTrue};
 ghost use Rattle.rart_keys.specs.Joins.{join};
 ghost use Rattle.rart_keys.specs.SortedMap.{lookup};
 ghost use Rattle.rart_c.specs.Answers.{Finds, FindsLongest};
@@ -40,6 +40,7 @@ pub extern "C" fn rart32_longest_prefix(
 ) -> bool
     ensures found { FindsLongest probe.now map.old.held.tree.pairs
         (len.old, value.old) (len.new, value.new) result }
+    ensures at_most { IsTrue result → len.new ≤ length probe.now }
     ensures same { map.new.held ≡ map.old.held }
 {
     let Some(held) = take(map, alloc) else {

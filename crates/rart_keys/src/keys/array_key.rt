@@ -172,6 +172,10 @@ impl<const N: usize> KeyTrait for ArrayKey<N> {
         Self::from_two(self.as_slice(), partial.to_slice())
     }
 
+    fn joined(first: &[u8], second: &[u8]) -> Self {
+        Self::from_two(first, second)
+    }
+
     fn truncate(&self, at_depth: usize) -> Self {
         Self::from_two(&self.as_slice()[..at_depth], &[])
     }

@@ -1,7 +1,7 @@
 //! A map from bytes to children with a slot for each byte, which a contract reads as its ascending entries and an extra
 //! value.
 
-ghost use Rattle.std.specs.Prelude.{◌≡◌, ℕ, [], ◌∷◌, IfSome, IsSome, Some, ◌<◌, ◌≤◌, length, IfErr, IfOk, None, OnOk};
+ghost use Rattle.std.specs.Prelude.{◌≡◌, ℕ, [], ◌∷◌, IfSome, IsSome, Some, ◌<◌, ◌≤◌, IfErr, IfOk, None, OnOk};
 ghost use Rattle.std.specs.Prelude.{OnErr};
 ghost use Rattle.std.specs.Prelude.{MatchOption, option_map, replicate};
 ghost use Rattle.rart_parts.specs.Entries.{BytesAscend, IsLastUnder, sorted_entries, child_at, entries_above};
@@ -37,7 +37,7 @@ pub struct DirectMapping<N, E = ()> {
 
 impl<N, E> Model for DirectMapping<N, E> {
     ghost use Rattle.rart_parts.specs.Bits.{words_have};
-    ghost use Rattle.rart_parts.specs.Direct.{IsDirect};
+    ghost use Rattle.rart_maps.specs.Direct.{IsDirect};
     ghost use Rattle.rart_parts.specs.Places.{Agrees, numbered_values};
     ghost use Rattle.rart_maps.specs.Contents.{Contents, contents_code};
 

@@ -11,11 +11,11 @@ ghost use Rattle.rart_maps.specs.Bounds.{bound_of};
 
 mod iter;
 
-use crate::mapping::{DirectMapping, NodeMapping, SortedKeyedMapping, bound};
+use crate::mapping::byte_index::ByteIndex;
+use crate::mapping::{DirectMapping, KeyedMapping, NodeMapping, SortedKeyedMapping, bound};
 pub use iter::{IndexedMappingIntoIter, IndexedMappingIter};
 use rart_block::Block;
 use rart_parts::TreeError;
-use rart_parts::mapping::byte_index::ByteIndex;
 use rart_parts::utils::bitset::BitsetTrait;
 use std::alloc::Global;
 use std::marker::{Model, PhantomData};
@@ -114,6 +114,27 @@ impl<N, const W: usize, B: BitsetTrait> IndexedMapping<N, W, B> {
         map.fill_from_direct(source);
         Ok(map)
     }
+
+    /// Moves the children of a keyed mapping into a new map.
+    ///
+    /// # Errors
+    ///
+    /// [`TreeError::Memory`] if the allocation fails. `source` is then unchanged.
+    pub fn from_keyed<const U: usize, C: BitsetTrait>(
+        alloc: Global,
+        source: &mut KeyedMapping<N, U, C>,
+    ) -> Result<Self, TreeError>
+        requires narrow { W ≤ 255 }
+        requires at_most { length (sorted_entries source.old) ≤ W }
+        ensures ok { IfOk result (λ m. sorted_entries m.entries ≡ sorted_entries source.old) }
+        ensures emptied { OnOk result (sorted_entries source.new ≡ []) }
+        ensures memory { IfErr result IsMemory }
+        ensures unchanged { OnErr result (source.new ≡ source.old) }
+    {
+        let mut map = IndexedMapping::new(alloc)?;
+        map.fill_from_keyed(source);
+        Ok(map)
+    }
 }
 
 impl<N, const W: usize, B: BitsetTrait, E> IndexedMapping<N, W, B, E> {
@@ -179,6 +200,24 @@ impl<N, const W: usize, B: BitsetTrait, E> IndexedMapping<N, W, B, E> {
         let _count = source.num_children();
         while let Some(key) = source.first_byte() {
             let child = source.delete_child(key).unwrap();
+            self.add_child(key, child);
+        }
+    }
+
+    /// Moves the children of a keyed mapping into this empty map. It does not allocate.
+    pub fn fill_from_keyed<const U: usize, C: BitsetTrait>(
+        &mut self,
+        source: &mut KeyedMapping<N, U, C>,
+    )
+        requires empty { sorted_entries self.old.entries ≡ [] }
+        requires at_most { length (sorted_entries source.old) ≤ W }
+        ensures filled { sorted_entries self.new.entries ≡ sorted_entries source.old }
+        ensures emptied { sorted_entries source.new ≡ [] }
+        ensures extra { self.new.extra ≡ self.old.extra }
+    {
+        // Its bytes ascend.
+        let _count = source.num_children();
+        while let Some((key, child)) = source.take_any() {
             self.add_child(key, child);
         }
     }

@@ -10,13 +10,14 @@ mod iter;
 mod search;
 
 use crate::mapping::sorted_keyed_mapping::search::{
-    first_above, first_not_below, goes_last, keys_are_bytes, place_of,
+    first_above, first_not_below, goes_last, place_of,
 };
 use crate::mapping::{IndexedMapping, NodeMapping};
 pub use iter::{SortedKeyedMappingIntoIter, SortedKeyedMappingIter};
 use rart_block::Block;
 use rart_parts::TreeError;
 use rart_parts::utils::bitset::BitsetTrait;
+use rart_parts::utils::u8_keys::keys_are_bytes;
 use std::alloc::Global;
 use std::marker::Model;
 
@@ -30,7 +31,7 @@ pub struct SortedKeyedMapping<N, const W: usize, E = ()> {
 
 impl<N, const W: usize, E> Model for SortedKeyedMapping<N, W, E> {
     ghost use Rattle.std.specs.List.{zip};
-    ghost use Rattle.rart_parts.specs.SortedKeyed.{IsSortedKeyed};
+    ghost use Rattle.rart_maps.specs.SortedKeyed.{IsSortedKeyed};
     ghost use Rattle.rart_maps.specs.Contents.{Contents, contents_code};
 
     ghost Value = { Contents N E };

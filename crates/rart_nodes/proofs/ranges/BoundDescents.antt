@@ -48,7 +48,7 @@ module _ {V : Type 0} where
   IsFirst v None = Unit {0}
   IsFirst v (Some t) = v ≡ None
 
-  step-first : (h : Bool) (s : List ℕ) (t : Trie V) (v : Option V) (e : Option ℕ) (n : Option (Trie V))
+  pub step-first : (h : Bool) (s : List ℕ) (t : Trie V) (v : Option V) (e : Option ℕ) (n : Option (Trie V))
       (r : List ℕ) → StepsFrom h s t v e n r → IsFirst v n
   step-first h s t v e n r (whole a x y z) = rw z tt
   step-first h s t v e n r (own_key f l x y z) = rw z tt

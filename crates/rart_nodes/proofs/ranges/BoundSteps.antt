@@ -17,7 +17,7 @@ use Rattle.rart_nodes.proofs.walks.WalkLemmas.{after-append, after-none, after-o
 
 module _ {V : Type 0} where
   -- at a node t, to which the path is k, with s left of the start
-  from-step : (g : Grown) (h : Bool) (k : SegmentList) (s : List ℕ) (t : Trie V) (v : Option V) (e : Option ℕ)
+  pub from-step : (g : Grown) (h : Bool) (k : SegmentList) (s : List ℕ) (t : Trie V) (v : Option V) (e : Option ℕ)
       (n : Option (Trie V)) (r : List ℕ) → Joins g → is_canonical t ≡ true → StepsFrom h s t v e n r
       → segments_after k (entries_from h s (entries_of g t)) ≡ value_at (k ++ g (prefix_of t)) v
       ++ (segments_after (k ++ g (prefix_of t)) (entries_from h r (tree_entries g n))
@@ -37,7 +37,7 @@ module _ {V : Type 0} where
       ∙ after-twice k (g (prefix_of t)) (next ++ above) ∙ after-append (k ++ g (prefix_of t)) next above)
 
   -- with s left of the end
-  until-step : (g : Grown) (h : Bool) (k : SegmentList) (s : List ℕ) (t : Trie V) (v : Option V) (e : Option ℕ)
+  pub until-step : (g : Grown) (h : Bool) (k : SegmentList) (s : List ℕ) (t : Trie V) (v : Option V) (e : Option ℕ)
       (n : Option (Trie V)) (r : List ℕ) → Joins g → is_canonical t ≡ true → StepsUntil h s t v e n r
       → segments_after k (entries_until h s (entries_of g t))
       ≡ segments_after (k ++ g (prefix_of t)) (value_at [] v

@@ -32,7 +32,7 @@ module _ {V : Type 0} where
   join-after ps [] = refl
   join-after ps (e ∷ es) = rw (joined-append ps e.0, join-after ps es) refl
 
-  join-own : (v : Option V) → join_all (value_at [] v) ≡ own_pair v
+  pub join-own : (v : Option V) → join_all (value_at [] v) ≡ own_pair v
   join-own None = refl
   join-own (Some v) = refl
 

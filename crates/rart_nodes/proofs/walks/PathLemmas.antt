@@ -42,7 +42,7 @@ grown-long : (g : Grown) (p : List ℕ) → KeepsEach g → 0 < length p → 0 <
 grown-long g [] h l = absurd (omega arith)
 grown-long g (b ∷ p) h l = h b p
 
-starts-long : (b : ℕ) (p : List ℕ) → StartsWith b p → 0 < length p
+pub starts-long : (b : ℕ) (p : List ℕ) → StartsWith b p → 0 < length p
 starts-long b [] h = absurd h
 starts-long b (x ∷ p) h = omega arith
 

@@ -1,5 +1,5 @@
 -- What paths keep of a prefix: its bytes, one by one, the prefix as one segment, or nothing.
-use Rattle.std.specs.Prelude.{ℕ, List, [], ◌∷◌, map, take, Option}
+use Rattle.std.specs.Prelude.{ℕ, List, [], ◌∷◌, ◌++◌, map, take, Option}
 use Rattle.std.specs.Borrow.{Bor}
 use Rattle.std.specs.Option.{option_copied}
 use Rattle.std.proofs.Common.{arith}
@@ -13,7 +13,7 @@ byte_segments p = map (λ b. b ∷ []) p
 
 -- the bytes that a path of bytes keeps
 abbrev pub kept_bytes : BytePath → List ℕ
-kept_bytes t = take t.len (bytes_in t.buffer)
+kept_bytes t = take t.len (bytes_in t.buffer) ++ t.last.now
 
 abbrev pub one_segment : Grown
 one_segment [] = []

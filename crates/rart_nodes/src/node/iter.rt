@@ -27,7 +27,7 @@ use std::marker::{Model, PhantomData};
 #[derive(Drop)]
 pub(crate) struct KeyWalk<'a, K: KeyTrait, P: Partial, V, C> {
     walk: Walk<'a, P, V, C>,
-    path: BytePath,
+    path: BytePath<'a>,
     of: PhantomData<K>,
 }
 
@@ -57,7 +57,8 @@ impl<'a, K: KeyTrait, P: Partial, V, C: Count> KeyWalk<'a, K, P, V, C> {
             (C.number counter.new) }
     {
         let value = self.walk.advance(&mut self.path, counter)?;
-        Some((K::new_from_slice(self.path.key()), value))
+        let (above, last) = self.path.parts();
+        Some((K::joined(above, last), value))
     }
 }
 

@@ -23,6 +23,7 @@ use rart_trie::Count;
 use std::alloc::{AllocError, Global};
 
 pub(crate) mod back;
+pub(crate) mod nearest;
 pub(crate) mod path;
 mod seek_lower_bound;
 
@@ -38,7 +39,7 @@ pub(crate) struct Walk<'a, P: Partial, V, C> {
 
 /// What a descent to a bound keeps of a visited node, and where it continues.
 #[derive(Drop)]
-struct Step<'a, 'k, P: Partial, V, C> {
+pub(crate) struct Step<'a, 'k, P: Partial, V, C> {
     value: Option<&'a V>,
     // the walk keeps the children after this byte, or before it from the back, and all of them if it is `None`
     edge: Option<u8>,

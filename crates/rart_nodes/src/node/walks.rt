@@ -10,6 +10,8 @@ mod lending;
 mod longest_view;
 mod look_up;
 pub(crate) mod matching;
+mod nearest;
 mod range_views;
 mod try_for_each;
+mod try_views;
 mod visit;

@@ -7,7 +7,7 @@ mod iter;
 mod iter_mut;
 
 ghost use Rattle.std.specs.Prelude.{◌≡◌, [], ◌<◌, ◌≤◌, ◌^◌, ◌↔◌, not, false, length, IfErr, IfOk, IfSome, IsTrue};
-ghost use Rattle.std.specs.Prelude.{MatchOption, OnSome, Option, Some, None, slice_index_or, slice_set, replicate};
+ghost use Rattle.std.specs.Prelude.{MatchOption, Option, Some, None, slice_index_or, slice_set, replicate};
 ghost use Rattle.std.specs.Option.{option_copied, option_copied_mut};
 ghost use Rattle.rart_parts.specs.Bits.{IsFirst, IsLast};
 ghost use Rattle.rart_parts.specs.Errors.{IsMemory};
@@ -28,8 +28,8 @@ use std::marker::Model;
 #[derive(Drop)]
 pub struct BitArray<X, const RANGE_WIDTH: usize, B: BitsetTrait> {
     // Empty, or the set of the used places.
-    pub(crate) bitset: B,
-    pub(crate) places: Vec<Option<X>>,
+    bitset: B,
+    places: Vec<Option<X>>,
 }
 
 impl<X, const RANGE_WIDTH: usize, B: BitsetTrait> Model for BitArray<X, RANGE_WIDTH, B> {
@@ -145,15 +145,8 @@ impl<X, const RANGE_WIDTH: usize, B: BitsetTrait> BitArray<X, RANGE_WIDTH, B> {
         self.places[position].as_ref()
     }
 
-    /// Returns the slots in order.
-    pub(crate) fn as_slice(&self) -> &[Option<X>]
-        ensures { result.now ≡ self.now }
-    {
-        self.places.as_slice()
-    }
-
     /// Returns the bitset of the used slots if it is known.
-    pub(crate) fn known_bitset(&self) -> Option<&B>
+    pub fn known_bitset(&self) -> Option<&B>
         ensures covers { RANGE_WIDTH ≤ B.CAPACITY }
         ensures fits { B.CAPACITY < 2 ^ 64 }
         ensures agrees { IfSome result (λ set. Agrees B.CAPACITY (B.has set.now) self.now) }
@@ -166,7 +159,7 @@ impl<X, const RANGE_WIDTH: usize, B: BitsetTrait> BitArray<X, RANGE_WIDTH, B> {
     }
 
     /// Returns the bitset of the used slots, found by a scan.
-    pub(crate) fn scanned_bitset(&self) -> B
+    pub fn scanned_bitset(&self) -> B
         ensures covers { RANGE_WIDTH ≤ B.CAPACITY }
         ensures agrees { Agrees B.CAPACITY (B.has result) self.now }
     {
@@ -186,7 +179,7 @@ impl<X, const RANGE_WIDTH: usize, B: BitsetTrait> BitArray<X, RANGE_WIDTH, B> {
     }
 
     /// Stores a value in a free slot. It drops nothing, so `X` needs no `Drop`.
-    pub(crate) fn put(&mut self, position: usize, x: X)
+    pub fn put(&mut self, position: usize, x: X)
         requires in_range { position < RANGE_WIDTH }
         requires free { is_used self.old position ≡ false }
         ensures { self.new ≡ slice_set self.old position (Some x) }

@@ -1,5 +1,5 @@
 //! Searches for a byte among the keys of a node.
-ghost use Rattle.std.specs.Prelude.{◌≡◌, ℕ, ◌<◌, ◌≤◌, length, slice_index, IsSomeAnd};
+ghost use Rattle.std.specs.Prelude.{ℕ, ◌<◌, ◌≤◌, length, slice_index, IsSomeAnd};
 ghost use Rattle.rart_parts.specs.Bits.{IsFirst};
 ghost use Rattle.rart_parts.specs.Keys.{IsAscendingBelow, IsPlaceOf, IsFirstAbove, is_held};
 

@@ -19,6 +19,7 @@ enum Ask {
     Set(usize, u8),
     Update(usize, u8),
     Erase(usize),
+    Put(usize, u8),
     Get(usize),
     /// Writes through the loan of `get_mut`: the old value.
     Write(usize, u8),
@@ -32,6 +33,8 @@ enum Ask {
     Check(usize),
     IsEmpty,
     Size,
+    Known,
+    Scanned,
     Clear,
 }
 
@@ -84,6 +87,11 @@ fn change<const W: usize, B: BitsetTrait>(
             assert!(rt; position < W);
             number(array.erase(position))
         }
+        Ask::Put(position, value) => {
+            assert!(rt; position < W && !array.check(position));
+            array.put(position, value);
+            None
+        }
         Ask::Write(position, value) => number(write(rt, array, position, value)),
         Ask::WriteAll(more) => Some(write_all(array, more)),
         Ask::Clear => {
@@ -114,6 +122,12 @@ fn look<const W: usize, B: BitsetTrait>(
         }
         Ask::IsEmpty => Some(usize::from(array.is_empty())),
         Ask::Size => Some(array.size()),
+        Ask::Known => Some(array.known_bitset()?.size()),
+        Ask::Scanned => {
+            // Its contract states that the positions can be counted.
+            let _known = array.known_bitset();
+            Some(array.scanned_bitset().size())
+        }
         _ => panic!(rt; "the call changes the array"),
     }
 }
@@ -189,9 +203,11 @@ fn a_full_array_refuses_a_push(rt: HostRuntime) -> Result<(), Fail> {
     Ok(())
 }
 
-static WRITTEN_BY_WALKS: [Row; 28] = [
+static WRITTEN_BY_WALKS: [Row; 37] = [
     (Ask::WriteAll(1), Some(0)),
     (Ask::IsEmpty, Some(1)),
+    (Ask::Known, None),
+    (Ask::Scanned, Some(0)),
     (Ask::Set(0, 10), None),
     (Ask::Set(8, 20), None),
     (Ask::Set(12, 30), None),
@@ -200,7 +216,10 @@ static WRITTEN_BY_WALKS: [Row; 28] = [
     (Ask::Get(8), Some(21)),
     (Ask::Get(12), Some(31)),
     (Ask::Get(1), None),
+    (Ask::Known, Some(3)),
     (Ask::WriteAll(1), Some(3)),
+    (Ask::Known, None),
+    (Ask::Scanned, Some(3)),
     (Ask::IsEmpty, Some(0)),
     (Ask::Size, Some(3)),
     (Ask::FirstUsed, Some(0)),
@@ -218,6 +237,10 @@ static WRITTEN_BY_WALKS: [Row; 28] = [
     (Ask::WriteAll(1), Some(2)),
     (Ask::Update(1, 9), Some(53)),
     (Ask::Size, Some(2)),
+    (Ask::WriteAll(1), Some(2)),
+    (Ask::Put(0, 60), None),
+    (Ask::Known, Some(3)),
+    (Ask::Get(0), Some(60)),
 ];
 
 #[test]

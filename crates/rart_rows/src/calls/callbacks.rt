@@ -91,8 +91,8 @@ fn put_fold(fold: Result<u64, TreeError>, calls: u64, answer: &mut Answer) {
     }
 }
 
-// What the callback returns at its call of this number.
-fn control(walk: Walk, call: u64) -> Result<VisitControl, u64> {
+/// What the callback returns at its call of this number.
+pub fn control(walk: Walk, call: u64) -> Result<VisitControl, u64> {
     match walk {
         Walk::Stop(at) if at == call => Ok(VisitControl::Stop),
         Walk::Fail(at) if at == call => Err(at),
@@ -122,7 +122,8 @@ fn try_values<K: KeyTrait + Drop>(
     }
 }
 
-fn put_tried(tried: Result<(), VisitError<u64>>, answer: &mut Answer) {
+/// The end of what a callback showed, or why the walk failed.
+pub fn put_tried(tried: Result<(), VisitError<u64>>, answer: &mut Answer) {
     match tried {
         Ok(()) => answer.end(),
         Err(VisitError::Callback(error)) => {

@@ -55,6 +55,38 @@ fn longest_value<K: KeyTrait + Drop>(tree: &Tree<K>, key: &K, form: Form) -> Opt
     }
 }
 
+fn first_from<K: KeyTrait + Drop>(tree: &Tree<K>, key: &K, form: Form, answer: &mut Answer) {
+    if form.takes_key() {
+        put_found(tree.first_at_or_after(same_key(key)), answer);
+    } else {
+        put_found(tree.first_at_or_after_k(key), answer);
+    }
+}
+
+fn first_after<K: KeyTrait + Drop>(tree: &Tree<K>, key: &K, form: Form, answer: &mut Answer) {
+    if form.takes_key() {
+        put_found(tree.first_after(same_key(key)), answer);
+    } else {
+        put_found(tree.first_after_k(key), answer);
+    }
+}
+
+fn last_until<K: KeyTrait + Drop>(tree: &Tree<K>, key: &K, form: Form, answer: &mut Answer) {
+    if form.takes_key() {
+        put_found(tree.last_at_or_before(same_key(key)), answer);
+    } else {
+        put_found(tree.last_at_or_before_k(key), answer);
+    }
+}
+
+fn last_before<K: KeyTrait + Drop>(tree: &Tree<K>, key: &K, form: Form, answer: &mut Answer) {
+    if form.takes_key() {
+        put_found(tree.last_before(same_key(key)), answer);
+    } else {
+        put_found(tree.last_before_k(key), answer);
+    }
+}
+
 /// Looks a key up.
 pub fn look<K: KeyTrait + Drop>(
     tree: &Tree<K>,
@@ -68,6 +100,10 @@ pub fn look<K: KeyTrait + Drop>(
         Look::ContainsKey => answer.truth(contains(tree, key, form)),
         Look::LongestPrefixMatch => longest(tree, key, form, answer),
         Look::LongestPrefixValue => answer.value(longest_value(tree, key, form)),
+        Look::FirstAtOrAfter => first_from(tree, key, form, answer),
+        Look::FirstAfter => first_after(tree, key, form, answer),
+        Look::LastAtOrBefore => last_until(tree, key, form, answer),
+        Look::LastBefore => last_before(tree, key, form, answer),
     }
 }
 
@@ -96,6 +132,10 @@ pub fn look_up_bytes<K: KeyTrait + Drop>(
         Probe::LongestPrefixValueBytes => {
             answer.value(tree.longest_prefix_value_bytes(bytes).copied())
         }
+        Probe::FirstAtOrAfterBytes => put_found(tree.first_at_or_after_bytes(bytes), answer),
+        Probe::FirstAfterBytes => put_found(tree.first_after_bytes(bytes), answer),
+        Probe::LastAtOrBeforeBytes => put_found(tree.last_at_or_before_bytes(bytes), answer),
+        Probe::LastBeforeBytes => put_found(tree.last_before_bytes(bytes), answer),
     }
 }
 

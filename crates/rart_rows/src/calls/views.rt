@@ -2,11 +2,11 @@
 
 use crate::answer::Answer;
 use crate::asked::Asked;
-use crate::calls::callbacks::put_walked;
+use crate::calls::callbacks::{control, put_tried, put_walked};
 use crate::form::Form;
 use crate::names::Views;
 use crate::world::Tree;
-use rart::{KeyTrait, LendingKeyView, TreeError};
+use rart::{KeyTrait, LendingKeyView, TreeError, VisitError};
 
 fn all_views<K: KeyTrait>(
     tree: &Tree<K>,
@@ -74,6 +74,67 @@ fn put_longest(found: Result<bool, TreeError>, answer: &mut Answer) {
     }
 }
 
+fn try_all_views<K: KeyTrait + Drop>(
+    tree: &Tree<K>,
+    asked: &Asked<'_, K>,
+    answer: &mut Answer,
+) -> Result<(), VisitError<u64>> {
+    let walk = asked.args().walk;
+    let mut call = 0_u64;
+    let mut show = |view: LendingKeyView<'_, '_>, value: &u64| {
+        call = call.wrapping_add(1);
+        answer.view(view, *value);
+        control(walk, call)
+    };
+    if asked.form.lends() {
+        tree.try_for_each_view_by_ref(&mut show)
+    } else {
+        tree.try_for_each_view(show)
+    }
+}
+
+fn try_prefix_views<K: KeyTrait + Drop>(
+    tree: &Tree<K>,
+    asked: &Asked<'_, K>,
+    answer: &mut Answer,
+) -> Result<(), VisitError<u64>> {
+    let walk = asked.args().walk;
+    let mut call = 0_u64;
+    let mut show = |view: LendingKeyView<'_, '_>, value: &u64| {
+        call = call.wrapping_add(1);
+        answer.view(view, *value);
+        control(walk, call)
+    };
+    match asked.form {
+        Form::Value => tree.try_prefix_for_each_view(asked.taken(), show),
+        Form::LentReference => tree.try_prefix_for_each_view_by_ref_k(&asked.key, &mut show),
+        Form::LentValue => tree.try_prefix_for_each_view_by_ref(asked.taken(), &mut show),
+        Form::Bytes => tree.try_prefix_for_each_view_bytes(asked.bytes(), show),
+        Form::LentBytes => tree.try_prefix_for_each_view_by_ref_bytes(asked.bytes(), &mut show),
+        Form::Reference | Form::Step => tree.try_prefix_for_each_view_k(&asked.key, show),
+    }
+}
+
+fn try_range_views<K: KeyTrait + Drop>(
+    tree: &Tree<K>,
+    asked: &Asked<'_, K>,
+    answer: &mut Answer,
+) -> Result<(), VisitError<u64>> {
+    let (start, end) = (asked.start(), asked.end());
+    let walk = asked.args().walk;
+    let mut call = 0_u64;
+    let mut show = |view: LendingKeyView<'_, '_>, value: &u64| {
+        call = call.wrapping_add(1);
+        answer.view(view, *value);
+        control(walk, call)
+    };
+    if asked.form.lends() {
+        tree.try_for_each_range_view_by_ref(start, end, &mut show)
+    } else {
+        tree.try_for_each_range_view(start, end, show)
+    }
+}
+
 /// Walks with a callback that shows the segments that it is called with.
 pub fn view<K: KeyTrait + Drop>(
     tree: &Tree<K>,
@@ -97,6 +158,18 @@ pub fn view<K: KeyTrait + Drop>(
         Views::WithLongestPrefixMatchView => {
             let found = longest_view(tree, asked, answer);
             put_longest(found, answer);
+        }
+        Views::TryForEachView => {
+            let tried = try_all_views(tree, asked, answer);
+            put_tried(tried, answer);
+        }
+        Views::TryPrefixForEachView => {
+            let tried = try_prefix_views(tree, asked, answer);
+            put_tried(tried, answer);
+        }
+        Views::TryForEachRangeView => {
+            let tried = try_range_views(tree, asked, answer);
+            put_tried(tried, answer);
         }
     }
 }

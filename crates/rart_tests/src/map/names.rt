@@ -11,7 +11,7 @@ fn is_empty_set(set: &rart_parts::utils::bitset::Bitset8<1>) -> bool {
     set.is_empty()
 }
 
-fn is_empty_map(map: &rart_parts::mapping::DirectMapping<u8>) -> bool {
+fn is_empty_map(map: &rart_maps::mapping::DirectMapping<u8>) -> bool {
     map.num_children() == 0
 }
 

@@ -10,19 +10,19 @@ use Rattle.rart_trie.specs.storages.Capacities.{shrunk_capacity, previous_capaci
 abbrev pub child_entries : {V N : Type 0} → Storage V N → List (ℕ × N)
 child_entries Empty = []
 child_entries (Leaf v) = []
-child_entries (Node4 m) = m.value.map
-child_entries (Node16 m) = m.value.map
-child_entries (Node48 m) = sorted_entries m.value.map
-child_entries (Node256 m) = m.value.map
+child_entries (Node4 m) = m.entries
+child_entries (Node16 m) = m.entries
+child_entries (Node48 m) = sorted_entries m.entries
+child_entries (Node256 m) = m.entries
 
 -- the value
 abbrev pub stored_value : {V N : Type 0} → Storage V N → Option V
 stored_value Empty = None
 stored_value (Leaf v) = Some v
-stored_value (Node4 m) = m.value.value
-stored_value (Node16 m) = m.value.value
-stored_value (Node48 m) = m.value.value
-stored_value (Node256 m) = m.value.value
+stored_value (Node4 m) = m.extra
+stored_value (Node16 m) = m.extra
+stored_value (Node48 m) = m.extra
+stored_value (Node256 m) = m.extra
 
 -- how many children a storage of its kind holds at most
 abbrev pub storage_capacity : {V N : Type 0} → Storage V N → ℕ

@@ -36,7 +36,7 @@ pub deep_le-stored : {P V : Type 0} (G : Ghosts P) (p : P) (s : Storage V (Trie 
     (child_entries s)) + 1
 deep_le-stored G p Empty = omega arith
 deep_le-stored G p (Leaf v) = omega arith
-deep_le-stored G p (Node4 m) = omega (arith, most-children m.value.map)
-deep_le-stored G p (Node16 m) = omega (arith, most-children m.value.map)
-deep_le-stored G p (Node48 m) = omega (arith, most-children m.value.map, count-ascending m.value.map)
-deep_le-stored G p (Node256 m) = omega (arith, most-children m.value.map)
+deep_le-stored G p (Node4 m) = omega (arith, most-children m.entries)
+deep_le-stored G p (Node16 m) = omega (arith, most-children m.entries)
+deep_le-stored G p (Node48 m) = omega (arith, most-children m.entries, count-ascending m.entries)
+deep_le-stored G p (Node256 m) = omega (arith, most-children m.entries)

@@ -68,7 +68,7 @@ impl<P: Partial, V> DefaultNode<P, V> {
     }
 
     /// Returns the map that holds the children, by the kind of the node. It does not allocate.
-    pub fn child_map(&self) -> ChildMap<'_, Self>
+    pub fn child_map(&self) -> ChildMap<'_, V, Self>
         ensures children { as_children (map_entries result) ≡ children_in self.now }
         ensures capacity { map_capacity result ≡ capacity_in self.now }
     {

@@ -7,14 +7,12 @@ ghost use Rattle.std.specs.Option.{option_copied};
 ghost use Rattle.rart_parts.specs.Entries.{child_at, with_entry, without_byte};
 ghost use Rattle.rart_trie.specs.storages.Stored.{child_entries, storage_capacity, stored_value};
 
-use crate::node::storage::inner::Inner;
-use rart_parts::mapping::{DirectMapping, IndexedMapping, NodeMapping, SortedKeyedMapping};
+use rart_maps::mapping::{DirectMapping, IndexedMapping, NodeMapping, SortedKeyedMapping};
 use rart_parts::utils::bitset::Bitset64;
 
 pub(crate) mod child_map;
 mod ends;
 mod grow;
-mod inner;
 mod last_under;
 mod shrink;
 mod value;
@@ -29,13 +27,13 @@ pub(crate) enum Storage<V, N> {
     /// A value and no child. It is not allocated.
     Leaf(V),
     /// At most four children, by sorted keys.
-    Node4(Box<Inner<V, SortedKeyedMapping<N, 4>>>),
+    Node4(SortedKeyedMapping<N, 4, Option<V>>),
     /// At most sixteen children, by sorted keys.
-    Node16(Box<Inner<V, SortedKeyedMapping<N, 16>>>),
+    Node16(SortedKeyedMapping<N, 16, Option<V>>),
     /// At most 48 children, with an index from bytes to slots.
-    Node48(Box<Inner<V, IndexedMapping<N, 48, Bitset64<1>>>>),
+    Node48(IndexedMapping<N, 48, Bitset64<1>, Option<V>>),
     /// A place for each byte.
-    Node256(Box<Inner<V, DirectMapping<N>>>),
+    Node256(DirectMapping<N, Option<V>>),
 }
 
 impl<V, N> Storage<V, N> {
@@ -57,10 +55,10 @@ impl<V, N> Storage<V, N> {
     {
         match self {
             Storage::Empty | Storage::Leaf(_) => 0,
-            Storage::Node4(inner) => inner.map.num_children(),
-            Storage::Node16(inner) => inner.map.num_children(),
-            Storage::Node48(inner) => inner.map.num_children(),
-            Storage::Node256(inner) => inner.map.num_children(),
+            Storage::Node4(map) => map.num_children(),
+            Storage::Node16(map) => map.num_children(),
+            Storage::Node48(map) => map.num_children(),
+            Storage::Node256(map) => map.num_children(),
         }
     }
 
@@ -83,10 +81,10 @@ impl<V, N> Storage<V, N> {
     {
         match self {
             Storage::Empty | Storage::Leaf(_) => None,
-            Storage::Node4(inner) => inner.map.seek_child(b),
-            Storage::Node16(inner) => inner.map.seek_child(b),
-            Storage::Node48(inner) => inner.map.seek_child(b),
-            Storage::Node256(inner) => inner.map.seek_child(b),
+            Storage::Node4(map) => map.seek_child(b),
+            Storage::Node16(map) => map.seek_child(b),
+            Storage::Node48(map) => map.seek_child(b),
+            Storage::Node256(map) => map.seek_child(b),
         }
     }
 
@@ -102,10 +100,10 @@ impl<V, N> Storage<V, N> {
     {
         match self {
             Storage::Empty | Storage::Leaf(_) => unreachable!(),
-            Storage::Node4(inner) => inner.map.add_child(b, node),
-            Storage::Node16(inner) => inner.map.add_child(b, node),
-            Storage::Node48(inner) => inner.map.add_child(b, node),
-            Storage::Node256(inner) => inner.map.add_child(b, node),
+            Storage::Node4(map) => map.add_child(b, node),
+            Storage::Node16(map) => map.add_child(b, node),
+            Storage::Node48(map) => map.add_child(b, node),
+            Storage::Node256(map) => map.add_child(b, node),
         }
     }
 
@@ -118,10 +116,10 @@ impl<V, N> Storage<V, N> {
     {
         match self {
             Storage::Empty | Storage::Leaf(_) => None,
-            Storage::Node4(inner) => inner.map.delete_child(b),
-            Storage::Node16(inner) => inner.map.delete_child(b),
-            Storage::Node48(inner) => inner.map.delete_child(b),
-            Storage::Node256(inner) => inner.map.delete_child(b),
+            Storage::Node4(map) => map.delete_child(b),
+            Storage::Node16(map) => map.delete_child(b),
+            Storage::Node48(map) => map.delete_child(b),
+            Storage::Node256(map) => map.delete_child(b),
         }
     }
 }
@@ -143,10 +141,10 @@ impl<V, N> Storage<V, N> {
     {
         match self {
             Storage::Empty | Storage::Leaf(_) => None,
-            Storage::Node4(inner) => inner.map.seek_child_mut(b),
-            Storage::Node16(inner) => inner.map.seek_child_mut(b),
-            Storage::Node48(inner) => inner.map.seek_child_mut(b),
-            Storage::Node256(inner) => inner.map.seek_child_mut(b),
+            Storage::Node4(map) => map.seek_child_mut(b),
+            Storage::Node16(map) => map.seek_child_mut(b),
+            Storage::Node48(map) => map.seek_child_mut(b),
+            Storage::Node256(map) => map.seek_child_mut(b),
         }
     }
 }

@@ -4,8 +4,8 @@ ghost use Rattle.std.specs.Iterator.{UpTo, YieldsFirst, YieldsFirstBy, item_coun
 ghost use Rattle.std.specs.Iterator.SizeHint.{IsWithinCount};
 ghost use Rattle.rart_parts.specs.Entries.{sorted_entries};
 
+use crate::mapping::byte_index::ByteIndexIter;
 use crate::mapping::{IndexedMapping, NodeMapping};
-use rart_parts::mapping::byte_index::ByteIndexIter;
 use rart_parts::utils::bitset::BitsetTrait;
 use std::iter::FusedIterator;
 use std::marker::Model;
@@ -20,7 +20,7 @@ pub struct IndexedMappingIter<'a, N> {
 impl<'a, N> Model for IndexedMappingIter<'a, N> {
     ghost use Rattle.std.specs.Prelude.{ℕ, List, length};
     ghost use Rattle.std.specs.Coded.{coded_list, coded×, coded_ℕ};
-    ghost use Rattle.rart_parts.specs.Indexed.{by_slots};
+    ghost use Rattle.rart_maps.specs.Indexed.{by_slots};
     ghost use Rattle.rart_maps.specs.Dense.{AreSlotsBelow, filled};
 
     ghost Value = { List (ℕ × N) };

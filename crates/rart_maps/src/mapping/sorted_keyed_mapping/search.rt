@@ -1,8 +1,10 @@
 //! Searches among ascending keys, of which those in use come first.
-ghost use Rattle.std.specs.Prelude.{◌↔◌, ◌≤◌, ℕ, slice_index, IsTrue};
+ghost use Rattle.std.specs.Prelude.{◌↔◌, ◌≤◌, IsTrue};
 ghost use Rattle.rart_parts.specs.Keys.{IsAscendingBelow, IsFirstAbove, IsPlaceOf};
-ghost use Rattle.rart_parts.specs.SortedKeyed.{IsPadded};
+ghost use Rattle.rart_maps.specs.SortedKeyed.{IsPadded};
 ghost use Rattle.rart_maps.specs.Bounds.{IsFirstNotBelow, bound_of};
+
+use rart_parts::utils::u8_keys::keys_are_bytes;
 
 /// Returns the place of a key among the first `count`, which ascend, where the others are 255.
 #[inline(always)]
@@ -68,11 +70,4 @@ pub(super) fn first_not_below<const W: usize>(
         Some(0) => 0,
         Some(byte) => first_above(byte - 1, keys, count),
     }
-}
-
-/// Proves that the elements of an array of bytes are below 256.
-pub(super) fn keys_are_bytes(keys: &[u8])
-    ensures { (k : ℕ) → slice_index keys.now k ≤ 255 }
-{
-    let _keys = keys;
 }

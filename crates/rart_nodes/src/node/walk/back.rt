@@ -20,7 +20,7 @@ use rart_trie::Count;
 use std::alloc::{AllocError, Global};
 
 pub(crate) mod branches;
-mod seek_upper_bound;
+pub(crate) mod seek_upper_bound;
 
 /// A walk over the pairs of a tree, the last first. Its caller holds the path.
 #[derive(Drop)]

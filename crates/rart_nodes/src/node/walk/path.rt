@@ -53,29 +53,32 @@ pub(crate) trait Path<'a, P: Partial>: Keeps + Drop {
         ensures requested { requested self.new ≡ requested self.old };
 }
 
-/// Keeps the bytes of the key.
+/// Keeps the bytes of the key. The prefix that was appended last stays in its node, so that the bytes of a leaf are
+/// copied once, to its key.
 #[derive(Drop)]
-pub(crate) struct BytePath {
+pub(crate) struct BytePath<'a> {
     buffer: KeyBuffer,
     // how many of its bytes are in use
     len: usize,
+    // what follows them
+    last: &'a [u8],
     ghost fits: { length (bytes_in buffer) < 2 ^ 64 },
-    ghost in_range: { len ≤ length (bytes_in buffer) },
+    ghost in_range: { len + length last.now ≤ length (bytes_in buffer) },
 }
 
-impl BytePath {
-    ghost use Rattle.std.specs.Prelude.{◌≡◌};
+impl<'a> BytePath<'a> {
+    ghost use Rattle.std.specs.Prelude.{◌≡◌, ◌++◌};
     ghost use Rattle.rart_nodes.specs.walks.PathParts.{kept_bytes};
 
-    /// Returns the bytes of the path.
-    pub(crate) fn key(&self) -> &[u8]
-        ensures { result.now ≡ kept_bytes self.now }
+    /// Returns the bytes of the path in two parts.
+    pub(crate) fn parts(&self) -> (&[u8], &'a [u8])
+        ensures { kept_bytes self.now ≡ result.0.now ++ result.1.now }
     {
-        &self.buffer.as_slice()[..self.len]
+        (&self.buffer.as_slice()[..self.len], self.last)
     }
 }
 
-impl Keeps for BytePath {
+impl<'a> Keeps for BytePath<'a> {
     ghost use Rattle.rart_nodes.specs.walks.PathParts.{byte_segments, short-bytes};
 
     ghost grown = { byte_segments };
@@ -83,7 +86,7 @@ impl Keeps for BytePath {
     ghost short = { short-bytes };
 }
 
-impl<'a, P: Partial> Path<'a, P> for BytePath {
+impl<'a, P: Partial> Path<'a, P> for BytePath<'a> {
     ghost use Rattle.rart_nodes.specs.walks.PathParts.{byte_segments, kept_bytes};
     ghost use Rattle.rart_nodes.specs.walks.KeyBuffers.{allocated_bytes};
 
@@ -97,28 +100,41 @@ impl<'a, P: Partial> Path<'a, P> for BytePath {
         BytePath {
             buffer: KeyBuffer::inline(),
             len: 0,
+            last: &[],
         }
     }
 
     fn with_capacity(alloc: Global, longest: usize) -> Result<Self, AllocError> {
         let buffer = KeyBuffer::with_len(alloc, longest)?;
-        Ok(BytePath { buffer, len: 0 })
+        Ok(BytePath {
+            buffer,
+            len: 0,
+            last: &[],
+        })
     }
 
     fn mark(&self) -> usize {
-        self.len
+        self.len + self.last.len()
     }
 
+    // Inline, as each step of a walk calls it.
+    #[inline(always)]
     fn cut(&mut self, mark: usize) {
-        if mark < self.len {
+        if mark <= self.len {
             self.len = mark;
+            self.last = &[];
+        } else if mark - self.len < self.last.len() {
+            self.last = &self.last[..mark - self.len];
         }
     }
 
     // Inline, as each step of a walk calls it.
     #[inline(always)]
     fn grow(&mut self, prefix: &'a P) {
-        self.len = self.buffer.write(self.len, prefix.to_slice());
+        if !self.last.is_empty() {
+            self.len = self.buffer.write(self.len, self.last);
+        }
+        self.last = prefix.to_slice();
     }
 }
 

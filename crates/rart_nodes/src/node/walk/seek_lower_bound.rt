@@ -26,7 +26,7 @@ use std::cmp::Ordering;
 /// Returns what a walk from `start` keeps of a visited node, or `None` if each key there is less than `start`.
 // Inline, so that a step isn't stored.
 #[inline(always)]
-fn step_from<'a, 'k, P: Partial, V, C>(
+pub(crate) fn step_from<'a, 'k, P: Partial, V, C>(
     at: Entered<'a, P, V, C>,
     start: &'k [u8],
     included: bool,
@@ -65,7 +65,7 @@ fn step_from<'a, 'k, P: Partial, V, C>(
 }
 
 /// Returns the children of a visited node after the byte `edge`, or all of them if it is `None`.
-fn branches_after<'a, P: Partial, V, C>(
+pub(crate) fn branches_after<'a, P: Partial, V, C>(
     at: Entered<'a, P, V, C>,
     edge: Option<u8>,
 ) -> Branches<'a, P, V, C>

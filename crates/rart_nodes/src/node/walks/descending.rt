@@ -24,7 +24,7 @@ pub(crate) mod range;
 #[derive(Drop)]
 pub(crate) struct KeyBackWalk<'a, K: KeyTrait, P: Partial, V, C> {
     walk: BackWalk<'a, P, V, C>,
-    path: BytePath,
+    path: BytePath<'a>,
     of: PhantomData<K>,
 }
 
@@ -54,7 +54,8 @@ impl<'a, K: KeyTrait, P: Partial, V, C: Count> KeyBackWalk<'a, K, P, V, C> {
             (C.number counter.new) }
     {
         let value = self.walk.retreat(&mut self.path, counter)?;
-        Some((K::new_from_slice(self.path.key()), value))
+        let (above, last) = self.path.parts();
+        Some((K::joined(above, last), value))
     }
 }
 

@@ -1,5 +1,5 @@
 //! A set of positions in an array of words: position `i` is bit `i % WIDTH` of word `i / WIDTH`.
-ghost use Rattle.std.specs.Prelude.{◌≡◌, ℕ, ◌<◌, ◌≤◌, ◌*◌, ◌^◌, false, refl};
+ghost use Rattle.std.specs.Prelude.{◌≡◌, ℕ, ◌<◌, ◌≤◌, ◌*◌, false, refl};
 ghost use Rattle.rart_parts.specs.BitSets.{bitset_has};
 ghost use Rattle.rart_parts.specs.Bits.{IsLast};
 

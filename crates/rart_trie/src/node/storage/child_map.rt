@@ -4,36 +4,36 @@ ghost use Rattle.rart_trie.specs.storages.ChildMaps.{map_capacity, map_entries};
 ghost use Rattle.rart_trie.specs.storages.Stored.{child_entries, storage_capacity};
 
 use crate::node::storage::Storage;
-use rart_parts::mapping::{DirectMapping, IndexedMapping, SortedKeyedMapping};
+use rart_maps::mapping::{DirectMapping, IndexedMapping, SortedKeyedMapping};
 use rart_parts::utils::bitset::Bitset64;
 
 /// A shared borrow of the map that holds a node's children, by the kind of the node.
 #[derive(Clone, Copy)]
-pub enum ChildMap<'a, N> {
+pub enum ChildMap<'a, V, N> {
     /// No storage for children.
     Childless,
     /// At most four children, by sorted keys.
-    Node4(&'a SortedKeyedMapping<N, 4>),
+    Node4(&'a SortedKeyedMapping<N, 4, Option<V>>),
     /// At most sixteen children, by sorted keys.
-    Node16(&'a SortedKeyedMapping<N, 16>),
+    Node16(&'a SortedKeyedMapping<N, 16, Option<V>>),
     /// At most 48 children, with an index from bytes to slots.
-    Node48(&'a IndexedMapping<N, 48, Bitset64<1>>),
+    Node48(&'a IndexedMapping<N, 48, Bitset64<1>, Option<V>>),
     /// A place for each byte.
-    Node256(&'a DirectMapping<N>),
+    Node256(&'a DirectMapping<N, Option<V>>),
 }
 
 impl<V, N> Storage<V, N> {
     /// Returns the map of the children. It does not allocate.
-    pub(crate) fn child_map(&self) -> ChildMap<'_, N>
+    pub(crate) fn child_map(&self) -> ChildMap<'_, V, N>
         ensures entries { map_entries result ≡ child_entries self.now }
         ensures capacity { map_capacity result ≡ storage_capacity self.now }
     {
         match self {
             Storage::Empty | Storage::Leaf(_) => ChildMap::Childless,
-            Storage::Node4(inner) => ChildMap::Node4(&inner.map),
-            Storage::Node16(inner) => ChildMap::Node16(&inner.map),
-            Storage::Node48(inner) => ChildMap::Node48(&inner.map),
-            Storage::Node256(inner) => ChildMap::Node256(&inner.map),
+            Storage::Node4(map) => ChildMap::Node4(map),
+            Storage::Node16(map) => ChildMap::Node16(map),
+            Storage::Node48(map) => ChildMap::Node48(map),
+            Storage::Node256(map) => ChildMap::Node256(map),
         }
     }
 }

@@ -7,62 +7,59 @@ ghost use Rattle.rart_trie.specs.storages.Stored.{child_entries, storage_capacit
 
 use crate::node::fill::fill;
 use crate::node::storage::Storage;
-use crate::node::storage::inner::Inner;
-use rart_parts::mapping::{DirectMapping, IndexedMapping, NodeMapping, SortedKeyedMapping};
+use rart_maps::mapping::{DirectMapping, IndexedMapping, NodeMapping, SortedKeyedMapping};
 use rart_parts::utils::bitset::Bitset64;
 use rart_parts::{TreeError, laws};
-use std::alloc::{AllocFailed, Global};
+use std::alloc::Global;
 use std::mem;
 
-// One function a map: each makes and frees an empty one by calls of its own.
-
-/// Returns a boxed sorted map with no child, and no value.
-pub(super) fn boxed_sorted<V, N, const W: usize>(
+/// Returns a sorted map with no child and no value.
+pub(super) fn new_sorted<V, N, const W: usize>(
     alloc: Global,
-) -> Result<Box<Inner<V, SortedKeyedMapping<N, W>>>, TreeError>
+) -> Result<SortedKeyedMapping<N, W, Option<V>>, TreeError>
     requires { W ≤ 255 }
-    ensures entries { IfOk result (λ m. m.value.map ≡ []) }
-    ensures value { IfOk result (λ m. m.value.value ≡ None) }
+    ensures entries { IfOk result (λ m. m.entries ≡ []) }
+    ensures value { IfOk result (λ m. m.extra ≡ None) }
     ensures memory { IfErr result IsMemory }
 {
-    match Box::new(alloc, Inner::new(SortedKeyedMapping::new(alloc)?)) {
-        Ok(inner) => Ok(inner),
-        Err(AllocFailed { value }) => {
-            value.into_map().destroy_empty();
-            Err(TreeError::Memory)
-        }
+    match SortedKeyedMapping::with_extra(alloc, None) {
+        Ok(map) => Ok(map),
+        Err(value) => match value {
+            None => Err(TreeError::Memory),
+            Some(_) => unreachable!(),
+        },
     }
 }
 
-/// Returns a boxed indexed map with no child, and no value.
-pub(super) fn boxed_indexed<V, N>(
+/// Returns an indexed map with no child and no value.
+pub(super) fn new_indexed<V, N>(
     alloc: Global,
-) -> Result<Box<Inner<V, IndexedMapping<N, 48, Bitset64<1>>>>, TreeError>
-    ensures entries { IfOk result (λ m. sorted_entries m.value.map ≡ []) }
-    ensures value { IfOk result (λ m. m.value.value ≡ None) }
+) -> Result<IndexedMapping<N, 48, Bitset64<1>, Option<V>>, TreeError>
+    ensures entries { IfOk result (λ m. sorted_entries m.entries ≡ []) }
+    ensures value { IfOk result (λ m. m.extra ≡ None) }
     ensures memory { IfErr result IsMemory }
 {
-    match Box::new(alloc, Inner::new(IndexedMapping::new(alloc)?)) {
-        Ok(inner) => Ok(inner),
-        Err(AllocFailed { value }) => {
-            value.into_map().destroy_empty();
-            Err(TreeError::Memory)
-        }
+    match IndexedMapping::with_extra(alloc, None) {
+        Ok(map) => Ok(map),
+        Err(value) => match value {
+            None => Err(TreeError::Memory),
+            Some(_) => unreachable!(),
+        },
     }
 }
 
-/// Returns a boxed direct map with no child, and no value.
-fn boxed_direct<V, N>(alloc: Global) -> Result<Box<Inner<V, DirectMapping<N>>>, TreeError>
-    ensures entries { IfOk result (λ m. m.value.map ≡ []) }
-    ensures value { IfOk result (λ m. m.value.value ≡ None) }
+/// Returns a direct map with no child and no value.
+fn new_direct<V, N>(alloc: Global) -> Result<DirectMapping<N, Option<V>>, TreeError>
+    ensures entries { IfOk result (λ m. m.entries ≡ []) }
+    ensures value { IfOk result (λ m. m.extra ≡ None) }
     ensures memory { IfErr result IsMemory }
 {
-    match Box::new(alloc, Inner::new(DirectMapping::new(alloc)?)) {
-        Ok(inner) => Ok(inner),
-        Err(AllocFailed { value }) => {
-            value.into_map().destroy_empty();
-            Err(TreeError::Memory)
-        }
+    match DirectMapping::with_extra(alloc, None) {
+        Ok(map) => Ok(map),
+        Err(value) => match value {
+            None => Err(TreeError::Memory),
+            Some(_) => unreachable!(),
+        },
     }
 }
 
@@ -74,7 +71,7 @@ impl<V, N> Storage<V, N> {
         ensures value { IfOk result (λ s. stored_value s ≡ None) }
         ensures memory { IfErr result IsMemory }
     {
-        Ok(Storage::Node4(boxed_sorted(alloc)?))
+        Ok(Storage::Node4(new_sorted(alloc)?))
     }
 
     /// Returns empty storage of capacity 16.
@@ -84,7 +81,7 @@ impl<V, N> Storage<V, N> {
         ensures value { IfOk result (λ s. stored_value s ≡ None) }
         ensures memory { IfErr result IsMemory }
     {
-        Ok(Storage::Node16(boxed_sorted(alloc)?))
+        Ok(Storage::Node16(new_sorted(alloc)?))
     }
 
     /// Returns empty storage of capacity 48.
@@ -94,7 +91,7 @@ impl<V, N> Storage<V, N> {
         ensures value { IfOk result (λ s. stored_value s ≡ None) }
         ensures memory { IfErr result IsMemory }
     {
-        Ok(Storage::Node48(boxed_indexed(alloc)?))
+        Ok(Storage::Node48(new_indexed(alloc)?))
     }
 
     /// Returns empty storage of capacity 256.
@@ -104,7 +101,7 @@ impl<V, N> Storage<V, N> {
         ensures value { IfOk result (λ s. stored_value s ≡ None) }
         ensures memory { IfErr result IsMemory }
     {
-        Ok(Storage::Node256(boxed_direct(alloc)?))
+        Ok(Storage::Node256(new_direct(alloc)?))
     }
 
     /// Returns whether another child fits at byte `b`.
@@ -119,10 +116,10 @@ impl<V, N> Storage<V, N> {
         laws::free_byte::<N>();
         match self {
             Storage::Empty | Storage::Leaf(_) => false,
-            Storage::Node4(inner) => inner.map.num_children() < 4,
-            Storage::Node16(inner) => inner.map.num_children() < 16,
-            Storage::Node48(inner) => inner.map.num_children() < 48,
-            Storage::Node256(inner) => inner.map.num_children() < 256,
+            Storage::Node4(map) => map.num_children() < 4,
+            Storage::Node16(map) => map.num_children() < 16,
+            Storage::Node48(map) => map.num_children() < 48,
+            Storage::Node256(map) => map.num_children() < 256,
         }
     }
 
@@ -163,26 +160,26 @@ impl<V, N> Storage<V, N> {
         }
         match self {
             Storage::Empty | Storage::Leaf(_) => {
-                let mut next = boxed_sorted(alloc)?;
-                fill(&mut next.value, self.take_value());
+                let mut next = new_sorted(alloc)?;
+                fill(next.extra_mut(), self.take_value());
                 self.replace_empty(Storage::Node4(next));
             }
-            Storage::Node4(inner) => {
-                let mut next = boxed_sorted(alloc)?;
-                next.map.fill_from_resized(&mut inner.map);
-                fill(&mut next.value, inner.value.take());
+            Storage::Node4(map) => {
+                let mut next = new_sorted(alloc)?;
+                next.fill_from_resized(map);
+                fill(next.extra_mut(), map.extra_mut().take());
                 self.replace_empty(Storage::Node16(next));
             }
-            Storage::Node16(inner) => {
-                let mut next = boxed_indexed(alloc)?;
-                next.map.fill_from_sorted_keyed(&mut inner.map);
-                fill(&mut next.value, inner.value.take());
+            Storage::Node16(map) => {
+                let mut next = new_indexed(alloc)?;
+                next.fill_from_sorted_keyed(map);
+                fill(next.extra_mut(), map.extra_mut().take());
                 self.replace_empty(Storage::Node48(next));
             }
-            Storage::Node48(inner) => {
-                let mut next = boxed_direct(alloc)?;
-                next.map.fill_from_indexed(&mut inner.map);
-                fill(&mut next.value, inner.value.take());
+            Storage::Node48(map) => {
+                let mut next = new_direct(alloc)?;
+                next.fill_from_indexed(map);
+                fill(next.extra_mut(), map.extra_mut().take());
                 self.replace_empty(Storage::Node256(next));
             }
             Storage::Node256(_) => unreachable!(),

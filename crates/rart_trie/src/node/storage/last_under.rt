@@ -5,22 +5,6 @@ ghost use Rattle.rart_trie.specs.ranges.Under.{entries_under};
 ghost use Rattle.rart_trie.specs.storages.Stored.{child_entries};
 
 use crate::node::storage::Storage;
-use rart_parts::mapping::SortedKeyedMappingIter;
-
-/// Returns the last of the remaining children under `byte`.
-fn last_of_under<N>(rest: SortedKeyedMappingIter<'_, N>, byte: u8) -> Option<(u8, &N)>
-    ensures { option_map (λ e. (e.0, e.1.now)) result
-        ≡ last_or None (entries_under byte rest.entry) }
-{
-    let mut rest = rest;
-    let mut last = None;
-    while let Some(child) = rest.next() {
-        if child.0 < byte {
-            last = Some(child);
-        }
-    }
-    last
-}
 
 impl<V, N> Storage<V, N> {
     /// Returns the child at the greatest byte under `byte`, with its byte.
@@ -30,10 +14,10 @@ impl<V, N> Storage<V, N> {
     {
         match self {
             Storage::Empty | Storage::Leaf(_) => None,
-            Storage::Node4(inner) => last_of_under(inner.map.iter(), byte),
-            Storage::Node16(inner) => last_of_under(inner.map.iter(), byte),
-            Storage::Node48(inner) => inner.map.last_under(byte as usize),
-            Storage::Node256(inner) => inner.map.last_under(byte as usize),
+            Storage::Node4(map) => map.last_under(Some(byte)),
+            Storage::Node16(map) => map.last_under(Some(byte)),
+            Storage::Node48(map) => map.last_under(Some(byte)),
+            Storage::Node256(map) => map.last_under(Some(byte)),
         }
     }
 }

@@ -9,9 +9,9 @@ ghost use Rattle.rart_trie.specs.storages.Stored.{stored_value};
 
 use crate::node::fill::fill;
 use crate::node::storage::Storage;
-use crate::node::storage::grow::{boxed_indexed, boxed_sorted};
+use crate::node::storage::grow::{new_indexed, new_sorted};
+use rart_maps::mapping::NodeMapping;
 use rart_parts::TreeError;
-use rart_parts::mapping::NodeMapping;
 use std::alloc::Global;
 
 impl<V, N> Storage<V, N> {
@@ -62,33 +62,33 @@ impl<V, N> Storage<V, N> {
         }
         match self {
             Storage::Empty | Storage::Leaf(_) => Ok(None),
-            Storage::Node4(inner) => {
-                let child = inner.map.delete_child(b);
-                let value = inner.value.take();
+            Storage::Node4(map) => {
+                let child = map.delete_child(b);
+                let value = map.extra_mut().take();
                 self.replace_empty(Storage::childless(value));
                 Ok(child)
             }
-            Storage::Node16(inner) => {
-                let mut next = boxed_sorted(alloc)?;
-                let child = inner.map.delete_child(b);
-                next.map.fill_from_resized(&mut inner.map);
-                fill(&mut next.value, inner.value.take());
+            Storage::Node16(map) => {
+                let mut next = new_sorted(alloc)?;
+                let child = map.delete_child(b);
+                next.fill_from_resized(map);
+                fill(next.extra_mut(), map.extra_mut().take());
                 self.replace_empty(Storage::Node4(next));
                 Ok(child)
             }
-            Storage::Node48(inner) => {
-                let mut next = boxed_sorted(alloc)?;
-                let child = inner.map.delete_child(b);
-                next.map.fill_from_indexed(&mut inner.map);
-                fill(&mut next.value, inner.value.take());
+            Storage::Node48(map) => {
+                let mut next = new_sorted(alloc)?;
+                let child = map.delete_child(b);
+                next.fill_from_indexed(map);
+                fill(next.extra_mut(), map.extra_mut().take());
                 self.replace_empty(Storage::Node16(next));
                 Ok(child)
             }
-            Storage::Node256(inner) => {
-                let mut next = boxed_indexed(alloc)?;
-                let child = inner.map.delete_child(b);
-                next.map.fill_from_direct(&mut inner.map);
-                fill(&mut next.value, inner.value.take());
+            Storage::Node256(map) => {
+                let mut next = new_indexed(alloc)?;
+                let child = map.delete_child(b);
+                next.fill_from_direct(map);
+                fill(next.extra_mut(), map.extra_mut().take());
                 self.replace_empty(Storage::Node48(next));
                 Ok(child)
             }
@@ -105,7 +105,7 @@ impl<V, N> Storage<V, N> {
         ensures value_kept { stored_value self.new ≡ stored_value self.old }
     {
         match self {
-            Storage::Node4(inner) => inner.map.take_value_for_leaf(),
+            Storage::Node4(map) => map.take_value_for_leaf(),
             Storage::Empty
             | Storage::Leaf(_)
             | Storage::Node16(_)

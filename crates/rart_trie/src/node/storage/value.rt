@@ -6,7 +6,6 @@ ghost use Rattle.rart_trie.specs.storages.Lends.{lends_value};
 ghost use Rattle.rart_trie.specs.storages.Stored.{HoldsSo, child_entries, stored_value};
 
 use crate::node::storage::Storage;
-use crate::node::storage::inner::Inner;
 use std::mem;
 
 impl<V, N> Storage<V, N> {
@@ -17,10 +16,10 @@ impl<V, N> Storage<V, N> {
         match self {
             Storage::Empty => None,
             Storage::Leaf(value) => Some(value),
-            Storage::Node4(inner) => inner.value.as_ref(),
-            Storage::Node16(inner) => inner.value.as_ref(),
-            Storage::Node48(inner) => inner.value.as_ref(),
-            Storage::Node256(inner) => inner.value.as_ref(),
+            Storage::Node4(map) => map.extra().as_ref(),
+            Storage::Node16(map) => map.extra().as_ref(),
+            Storage::Node48(map) => map.extra().as_ref(),
+            Storage::Node256(map) => map.extra().as_ref(),
         }
     }
 
@@ -31,10 +30,10 @@ impl<V, N> Storage<V, N> {
         match self {
             Storage::Empty => false,
             Storage::Leaf(_) => true,
-            Storage::Node4(inner) => inner.value.is_some(),
-            Storage::Node16(inner) => inner.value.is_some(),
-            Storage::Node48(inner) => inner.value.is_some(),
-            Storage::Node256(inner) => inner.value.is_some(),
+            Storage::Node4(map) => map.extra().is_some(),
+            Storage::Node16(map) => map.extra().is_some(),
+            Storage::Node48(map) => map.extra().is_some(),
+            Storage::Node256(map) => map.extra().is_some(),
         }
     }
 
@@ -46,19 +45,19 @@ impl<V, N> Storage<V, N> {
         match self {
             Storage::Empty => None,
             Storage::Leaf(value) => Some(value),
-            Storage::Node4(inner) => match &mut inner.value {
+            Storage::Node4(map) => match map.extra_mut() {
                 Some(value) => Some(value),
                 None => None,
             },
-            Storage::Node16(inner) => match &mut inner.value {
+            Storage::Node16(map) => match map.extra_mut() {
                 Some(value) => Some(value),
                 None => None,
             },
-            Storage::Node48(inner) => match &mut inner.value {
+            Storage::Node48(map) => match map.extra_mut() {
                 Some(value) => Some(value),
                 None => None,
             },
-            Storage::Node256(inner) => match &mut inner.value {
+            Storage::Node256(map) => match map.extra_mut() {
                 Some(value) => Some(value),
                 None => None,
             },
@@ -73,10 +72,10 @@ impl<V, N> Storage<V, N> {
         match self {
             Storage::Empty => mem::replace(self, Storage::Leaf(value)).into_value(),
             Storage::Leaf(old) => Some(mem::replace(old, value)),
-            Storage::Node4(inner) => inner.value.replace(value),
-            Storage::Node16(inner) => inner.value.replace(value),
-            Storage::Node48(inner) => inner.value.replace(value),
-            Storage::Node256(inner) => inner.value.replace(value),
+            Storage::Node4(map) => map.extra_mut().replace(value),
+            Storage::Node16(map) => map.extra_mut().replace(value),
+            Storage::Node48(map) => map.extra_mut().replace(value),
+            Storage::Node256(map) => map.extra_mut().replace(value),
         }
     }
 
@@ -99,10 +98,10 @@ impl<V, N> Storage<V, N> {
         match self {
             Storage::Empty => None,
             Storage::Leaf(_) => mem::replace(self, Storage::Empty).into_value(),
-            Storage::Node4(inner) => inner.value.take(),
-            Storage::Node16(inner) => inner.value.take(),
-            Storage::Node48(inner) => inner.value.take(),
-            Storage::Node256(inner) => inner.value.take(),
+            Storage::Node4(map) => map.extra_mut().take(),
+            Storage::Node16(map) => map.extra_mut().take(),
+            Storage::Node48(map) => map.extra_mut().take(),
+            Storage::Node256(map) => map.extra_mut().take(),
         }
     }
 
@@ -114,26 +113,10 @@ impl<V, N> Storage<V, N> {
         match self {
             Storage::Empty => None,
             Storage::Leaf(value) => Some(value),
-            Storage::Node4(inner) => {
-                let Inner { value, map } = Box::into_inner(inner);
-                map.destroy_empty();
-                value
-            }
-            Storage::Node16(inner) => {
-                let Inner { value, map } = Box::into_inner(inner);
-                map.destroy_empty();
-                value
-            }
-            Storage::Node48(inner) => {
-                let Inner { value, map } = Box::into_inner(inner);
-                map.destroy_empty();
-                value
-            }
-            Storage::Node256(inner) => {
-                let Inner { value, map } = Box::into_inner(inner);
-                map.destroy_empty();
-                value
-            }
+            Storage::Node4(map) => map.destroy_empty(),
+            Storage::Node16(map) => map.destroy_empty(),
+            Storage::Node48(map) => map.destroy_empty(),
+            Storage::Node256(map) => map.destroy_empty(),
         }
     }
 }

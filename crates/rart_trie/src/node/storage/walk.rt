@@ -6,9 +6,9 @@ ghost use Rattle.rart_trie.specs.storages.Stored.{child_entries};
 ghost use Rattle.rart_trie.specs.walks.Walks.{to_come};
 
 use crate::node::storage::Storage;
-use rart_parts::mapping::direct_mapping::DirectMappingIter;
-use rart_parts::mapping::indexed_mapping::IndexedMappingIter;
-use rart_parts::mapping::sorted_keyed_mapping::SortedKeyedMappingIter;
+use rart_maps::mapping::direct_mapping::DirectMappingIter;
+use rart_maps::mapping::indexed_mapping::IndexedMappingIter;
+use rart_maps::mapping::sorted_keyed_mapping::SortedKeyedMappingIter;
 
 /// The remaining children, by the map that holds them.
 #[derive(Drop)]
@@ -47,10 +47,10 @@ impl<V, N> Storage<V, N> {
     {
         match self {
             Storage::Empty | Storage::Leaf(_) => StorageIter::Childless,
-            Storage::Node4(inner) => StorageIter::Sorted(inner.map.iter()),
-            Storage::Node16(inner) => StorageIter::Sorted(inner.map.iter()),
-            Storage::Node48(inner) => StorageIter::Indexed(inner.map.iter()),
-            Storage::Node256(inner) => StorageIter::Direct(inner.map.iter()),
+            Storage::Node4(map) => StorageIter::Sorted(map.iter()),
+            Storage::Node16(map) => StorageIter::Sorted(map.iter()),
+            Storage::Node48(map) => StorageIter::Indexed(map.iter()),
+            Storage::Node256(map) => StorageIter::Direct(map.iter()),
         }
     }
 
@@ -61,10 +61,10 @@ impl<V, N> Storage<V, N> {
     {
         match self {
             Storage::Empty | Storage::Leaf(_) => StorageIter::Childless,
-            Storage::Node4(inner) => StorageIter::Sorted(inner.map.iter_above(byte)),
-            Storage::Node16(inner) => StorageIter::Sorted(inner.map.iter_above(byte)),
-            Storage::Node48(inner) => StorageIter::Indexed(inner.map.iter_above(byte)),
-            Storage::Node256(inner) => StorageIter::Direct(inner.map.iter_above(byte)),
+            Storage::Node4(map) => StorageIter::Sorted(map.iter_above(byte)),
+            Storage::Node16(map) => StorageIter::Sorted(map.iter_above(byte)),
+            Storage::Node48(map) => StorageIter::Indexed(map.iter_above(byte)),
+            Storage::Node256(map) => StorageIter::Direct(map.iter_above(byte)),
         }
     }
 

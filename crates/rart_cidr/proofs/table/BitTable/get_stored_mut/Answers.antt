@@ -71,3 +71,11 @@ unreachable-requires g c = c.requires.stored
     (sym (get-none _ c.args.octets.now c.args.bits c.canonical.ensures.ascending c.self.invariant.formed
     (λ k. (c.type_inv.octets k).fits) c.requires.bits _ (c.new_from_slice-key.ensures ∙ c.first_octets.ensures)
     c.in-None.ensures.value ∙ ap (lookup (network c.args.octets.now c.args.bits)) c.self.view_is))
+
+pub get_stored_mut-requires : goal.get_stored_mut-requires
+get_stored_mut-requires g c = record {
+  stored = code_stored _ c.args.octets.now c.args.bits _ _ _ c.in-Some.stride.now c.args.self.now
+      c.canonical.ensures.ascending c.self.invariant.formed (λ k. (c.type_inv.octets k).fits) c.requires.bits
+      (c.new_from_slice-key.ensures ∙ c.first_octets.ensures) c.octet_at.ensures c.code_of-code.ensures.value
+      c.in-Some.ensures.value c.self.view_is c.requires.stored;
+}

@@ -16,9 +16,9 @@ use denote.Model.Placed.{held, view_places}
 use Rattle.std.specs.contracts.option.Option as option
 use Rattle.rart_parts.specs.formers.utils.bitarray.BitArray as places
 use Rattle.rart_parts.specs.formers.utils.bitarray.BitArray.{place}
-use Rattle.rart_parts.specs.EntryShapes.{entry, on_value}
+use Rattle.rart_maps.specs.EntryShapes.{entry, on_value}
 use Rattle.rart_parts.specs.Bits.{words_have}
-use Rattle.rart_parts.specs.Direct.{IsDirect}
+use Rattle.rart_maps.specs.Direct.{IsDirect}
 use Rattle.rart_parts.specs.Places.{Agrees, numbered_values}
 use Rattle.rart_block.specs.formers.block.Block as block
 use Rattle.rart_maps.specs.Contents.{Contents}
@@ -47,7 +47,7 @@ fields E = via (block.the_former (place this) E Used 256) (λ X. Inside X E) (λ
     (λ X v. record { block = v })
     (λ X a. refl) (λ X v. refl)
 
-numbered-map : {X Y : Type 0} (h : X → Y) (n : ℕ) (os : List (Option X))
+pub numbered-map : {X Y : Type 0} (h : X → Y) (n : ℕ) (os : List (Option X))
     → numbered_values n (map ((place this).map X Y h) os) ≡ map (on_value h) (numbered_values n os)
 numbered-map h n [] = refl
 numbered-map h n (None ∷ os) = numbered-map h (suc n) os

@@ -17,7 +17,7 @@ use denote.Param.Weighed.{Weighed}
 use denote.Model.Placed.{view_places_where}
 use Rattle.std.specs.declared.default.Default as default
 use Rattle.rart_parts.specs.declared.utils.bitset.BitsetTrait as bits
-use Rattle.rart_parts.specs.EntryShapes.{on_value}
+use Rattle.rart_maps.specs.EntryShapes.{on_value}
 use Rattle.rart_block.specs.formers.block.Block as block
 use Rattle.rart_maps.specs.Contents.{Contents}
 use Rattle.rart_maps.specs.Dense.{IsDense}

@@ -18,8 +18,8 @@ use denote.Param.Weighed.{Weighed, w_list, w_pair, w_const, w_via}
 use denote.Model.Placed.{held, view_places_where}
 use Rattle.std.specs.Borrow.{u8}
 use Rattle.rart_parts.specs.Entries.{children_of as values_of, StartsAbove, BytesAscend}
-use Rattle.rart_parts.specs.EntryShapes.{entry, on_value}
-use Rattle.rart_parts.specs.SortedKeyed.{IsSortedKeyed}
+use Rattle.rart_maps.specs.EntryShapes.{entry, on_value}
+use Rattle.rart_maps.specs.SortedKeyed.{IsSortedKeyed}
 use Rattle.rart_block.specs.formers.block.Block as block
 use Rattle.rart_maps.specs.Contents.{Contents}
 use Rattle.rart_maps.specs.declared.mapping.sorted_keyed_mapping.SortedKeyedMapping.TheInside.{Inside}

@@ -28,7 +28,7 @@ use std::cmp::Ordering;
 /// Returns what a walk back from `end` keeps of a visited node, or `None` if each key there is greater than `end`.
 // Inline, so that a step isn't stored.
 #[inline(always)]
-fn step_until<'a, 'k, P: Partial, V, C>(
+pub(crate) fn step_until<'a, 'k, P: Partial, V, C>(
     at: Entered<'a, P, V, C>,
     end: &'k [u8],
     included: bool,

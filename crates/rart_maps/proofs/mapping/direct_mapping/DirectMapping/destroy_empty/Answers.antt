@@ -1,5 +1,5 @@
 use Rattle.std.proofs.Common.{◌∙◌, ap}
-use Rattle.rart_parts.proofs.FreedLemmas.{numbered_valueless}
+use Rattle.rart_maps.proofs.DirectLemmas.{numbered_valueless}
 use Rattle.rart_maps.proofs.mapping.direct_mapping.DirectMapping.destroy_empty.Goals as goal
 
 pub pop_places-requires : goal.pop_places-requires

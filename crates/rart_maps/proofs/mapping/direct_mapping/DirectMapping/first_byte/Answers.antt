@@ -3,8 +3,8 @@ use Rattle.std.specs.Prelude.{IsSome}
 use Rattle.std.proofs.lemmas.Bool.{cases_lt}
 use Rattle.rart_parts.specs.Entries.{child_at}
 use Rattle.rart_parts.proofs.PlaceLemmas.{free_read, past_used, used_read}
-use Rattle.rart_parts.proofs.entries.MoveLemmas.{empty_map}
-use Rattle.rart_parts.proofs.maps.DirectLemmas.{numbered_child}
+use Rattle.rart_maps.proofs.MoveLemmas.{empty_map}
+use Rattle.rart_maps.proofs.DirectLemmas.{numbered_child}
 use Rattle.rart_maps.proofs.DirectPlaces.{has_byte}
 use Rattle.rart_maps.proofs.mapping.direct_mapping.DirectMapping.first_byte.Goals as goal
 

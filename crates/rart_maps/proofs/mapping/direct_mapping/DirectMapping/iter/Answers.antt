@@ -1,6 +1,6 @@
 use Rattle.std.proofs.Common.{◌∙◌, ap, subst}
 use Rattle.rart_parts.specs.Entries.{BytesAscend}
-use Rattle.rart_parts.proofs.maps.DirectLemmas.{numbered-ascends}
+use Rattle.rart_maps.proofs.DirectLemmas.{numbered-ascends}
 use Rattle.rart_maps.proofs.DirectPlaces.{all_filled, walk_all}
 use Rattle.rart_maps.proofs.mapping.direct_mapping.DirectMapping.iter.Goals as goal
 

@@ -2,7 +2,7 @@ use Rattle.std.proofs.Common.{◌∙◌, ap, subst}
 use Rattle.rart_parts.specs.Bits.{members_from}
 use Rattle.rart_parts.specs.Entries.{BytesAscend, entries_above}
 use Rattle.rart_parts.proofs.entries.EntryLemmas.{above-ascends}
-use Rattle.rart_parts.proofs.maps.DirectLemmas.{numbered-ascends}
+use Rattle.rart_maps.proofs.DirectLemmas.{numbered-ascends}
 use Rattle.rart_maps.proofs.DirectPlaces.{above_filled, all_filled, has_byte, places_above, walk_all}
 use Rattle.rart_maps.proofs.mapping.direct_mapping.DirectMapping.iter_above.Goals as goal
 

@@ -4,7 +4,7 @@ use Rattle.std.specs.Option.{option_copied}
 use Rattle.std.specs.Prelude.{IsSome}
 use Rattle.rart_parts.specs.Entries.{child_at}
 use Rattle.rart_parts.proofs.PlaceLemmas.{free_read, used_read}
-use Rattle.rart_parts.proofs.maps.DirectLemmas.{numbered_child}
+use Rattle.rart_maps.proofs.DirectLemmas.{numbered_child}
 use Rattle.rart_maps.proofs.DirectPlaces.{has_byte}
 use Rattle.rart_maps.proofs.mapping.direct_mapping.DirectMapping.last_under.Goals as goal
 

@@ -1,5 +1,5 @@
 use Rattle.std.proofs.Common.{◌∙◌, ◌∷◌, sym, ap}
-use Rattle.rart_parts.proofs.entries.MoveLemmas.{first_entry}
+use Rattle.rart_maps.proofs.MoveLemmas.{first_entry}
 use Rattle.rart_maps.proofs.mapping.direct_mapping.DirectMapping.take_first.Goals as goal
 
 pub returns-clause-entries : goal.returns-clause-entries

@@ -1,4 +1,4 @@
-use Rattle.rart_parts.proofs.maps.DirectLemmas.{direct_start}
+use Rattle.rart_maps.proofs.DirectLemmas.{direct_start}
 use Rattle.rart_maps.proofs.DirectPlaces.{agrees_start}
 use Rattle.rart_maps.proofs.mapping.direct_mapping.DirectMapping.with_extra.Goals as goal
 

@@ -1,6 +1,7 @@
 use Rattle.std.proofs.Common.{◌≡◌, None, get_or, sym, ap, ◌∙◌, arith}
 use Rattle.rart_parts.specs.Entries.{child_at, with_entry}
-use Rattle.rart_parts.proofs.maps.DirectLemmas.{numbered_child, numbered-put, direct_put, place_reads}
+use Rattle.rart_parts.proofs.PlaceLemmas.{place_reads}
+use Rattle.rart_maps.proofs.DirectLemmas.{numbered_child, numbered-put, direct_put}
 use Rattle.rart_maps.proofs.DirectPlaces.{agrees_put}
 use Rattle.rart_maps.proofs.mapping.direct_mapping.DirectMappingNodeMapping256.add_child.Goals as goal
 

@@ -1,7 +1,7 @@
 use Rattle.std.proofs.Common.{◌≡◌, None, Some, get_or, sym, ap, ◌∙◌, arith}
 use Rattle.rart_parts.specs.Entries.{child_at, without_byte}
-use Rattle.rart_parts.proofs.maps.DirectLemmas.{numbered_child, numbered-taken, direct_taken, direct_without}
-use Rattle.rart_parts.proofs.maps.DirectLemmas.{place_reads}
+use Rattle.rart_maps.proofs.DirectLemmas.{numbered_child, numbered-taken, direct_taken, direct_without}
+use Rattle.rart_parts.proofs.PlaceLemmas.{place_reads}
 use Rattle.rart_maps.proofs.DirectPlaces.{agrees_taken}
 use Rattle.rart_maps.proofs.mapping.direct_mapping.DirectMappingNodeMapping256.delete_child.Goals as goal
 

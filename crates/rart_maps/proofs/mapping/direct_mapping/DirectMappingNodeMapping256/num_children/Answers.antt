@@ -1,7 +1,7 @@
 use Rattle.std.proofs.Common.{None, length, ◌∙◌, sym, ap, subst, arith}
 use Rattle.std.proofs.lemmas.List.{get_or_past}
 use Rattle.rart_parts.specs.Entries.{BytesAscend, child_at}
-use Rattle.rart_parts.proofs.maps.DirectLemmas.{numbered-ascends, numbered_child, length-numbered}
+use Rattle.rart_maps.proofs.DirectLemmas.{numbered-ascends, numbered_child, length-numbered}
 use Rattle.rart_maps.proofs.mapping.direct_mapping.DirectMappingNodeMapping256.num_children.Goals as goal
 
 pub returns-clause-at_most : goal.returns-clause-at_most

@@ -1,6 +1,7 @@
 use Rattle.std.proofs.Common.{List, Option, None, get_or, sym, ap, ◌∙◌, arith}
 use Rattle.rart_parts.specs.Entries.{child_at}
-use Rattle.rart_parts.proofs.maps.DirectLemmas.{numbered_child, place_reads}
+use Rattle.rart_parts.proofs.PlaceLemmas.{place_reads}
+use Rattle.rart_maps.proofs.DirectLemmas.{numbered_child}
 use Rattle.rart_maps.proofs.mapping.direct_mapping.DirectMappingNodeMapping256.seek_child.Goals as goal
 
 pub returns : goal.returns

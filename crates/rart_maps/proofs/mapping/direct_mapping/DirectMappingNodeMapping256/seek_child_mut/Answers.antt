@@ -1,11 +1,11 @@
 use Rattle.std.proofs.Common.{◌≡◌, List, Option, None, Some, sym, ap, ◌∙◌, get_or, refl, arith, subst}
-use Rattle.rart_parts.specs.Direct.{IsDirect}
+use Rattle.rart_maps.specs.Direct.{IsDirect}
 use Rattle.rart_parts.specs.Entries.{child_at, replaced_at}
 use Rattle.rart_parts.specs.Places.{Agrees, numbered_values}
-use Rattle.rart_parts.proofs.maps.DirectLemmas.{numbered_child, numbered-written, direct_written, place_reads, some_of}
-use Rattle.rart_parts.proofs.maps.DirectLemmas.{none_of}
-use Rattle.rart_parts.proofs.PlaceLemmas.{set_same}
-use Rattle.rart_parts.proofs.maps.SortedLemmas.{on_any}
+use Rattle.rart_maps.proofs.DirectLemmas.{numbered_child, numbered-written, direct_written, some_of}
+use Rattle.rart_maps.proofs.DirectLemmas.{none_of}
+use Rattle.rart_parts.proofs.PlaceLemmas.{place_reads, set_same}
+use Rattle.rart_maps.proofs.SortedLemmas.{on_any}
 use Rattle.rart_maps.proofs.DirectPlaces.{agrees_written, has_byte, used_at}
 use Rattle.rart_maps.proofs.mapping.direct_mapping.DirectMappingNodeMapping256.seek_child_mut.Goals as goal
 

@@ -1,6 +1,6 @@
 use Rattle.std.proofs.Common.{◌∙◌, length, sym, ap, arith}
 use Rattle.rart_parts.specs.Entries.{sorted_entries}
-use Rattle.rart_parts.proofs.maps.SortedLemmas.{no_items}
+use Rattle.rart_maps.proofs.SortedLemmas.{no_items}
 use Rattle.rart_maps.proofs.DenseLemmas.{dense_count}
 use Rattle.rart_maps.proofs.mapping.indexed_mapping.IndexedMapping.destroy_empty.Goals as goal
 

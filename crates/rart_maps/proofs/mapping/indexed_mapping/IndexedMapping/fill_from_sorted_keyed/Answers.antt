@@ -1,6 +1,6 @@
 use Rattle.std.proofs.Common.{◌≡◌, ◌++◌, ◌∷◌, ◌∙◌, [], sym, ap, arith}
 use Rattle.rart_parts.specs.Entries.{sorted_entries}
-use Rattle.rart_parts.proofs.entries.MoveLemmas.{taken_absent, taken_next, taken_fits}
+use Rattle.rart_maps.proofs.MoveLemmas.{taken_absent, taken_next, taken_fits}
 use Rattle.rart_maps.proofs.mapping.indexed_mapping.IndexedMapping.fill_from_sorted_keyed.Goals as goal
 
 pub add_child-requires : goal.add_child-requires

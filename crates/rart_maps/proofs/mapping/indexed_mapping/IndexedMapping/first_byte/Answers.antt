@@ -4,7 +4,7 @@ use Rattle.std.proofs.lemmas.Bool.{cases_lt}
 use Rattle.rart_parts.specs.Entries.{child_at, sorted_entries}
 use Rattle.rart_parts.specs.Places.{is_used}
 use Rattle.rart_parts.proofs.PlaceLemmas.{free_read, past_used, used_read}
-use Rattle.rart_parts.proofs.entries.MoveLemmas.{empty_map}
+use Rattle.rart_maps.proofs.MoveLemmas.{empty_map}
 use Rattle.rart_maps.proofs.DenseLemmas.{dense_none, dense_some, filled_read}
 use Rattle.rart_maps.proofs.mapping.indexed_mapping.IndexedMapping.first_byte.Goals as goal
 

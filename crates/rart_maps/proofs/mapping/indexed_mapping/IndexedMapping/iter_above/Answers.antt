@@ -2,7 +2,7 @@ use Rattle.std.proofs.Common.{◌∙◌, ap, subst}
 use Rattle.rart_parts.specs.Entries.{BytesAscend, sorted_entries, entries_above}
 use Rattle.rart_parts.specs.Places.{numbered_values}
 use Rattle.rart_parts.proofs.entries.EntryLemmas.{above-ascends}
-use Rattle.rart_parts.proofs.maps.IndexWalk.{slots_above}
+use Rattle.rart_maps.proofs.IndexWalk.{slots_above}
 use Rattle.rart_maps.specs.Dense.{filled}
 use Rattle.rart_maps.proofs.DenseLemmas.{dense_ascends, dense_slots, dense_walk, slots_below-above}
 use Rattle.rart_maps.proofs.mapping.indexed_mapping.IndexedMapping.iter_above.Goals as goal

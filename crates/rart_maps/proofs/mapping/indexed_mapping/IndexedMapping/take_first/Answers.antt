@@ -1,6 +1,6 @@
 use Rattle.std.proofs.Common.{◌∙◌, ◌∷◌, sym, ap}
 use Rattle.rart_parts.specs.Entries.{sorted_entries}
-use Rattle.rart_parts.proofs.entries.MoveLemmas.{first_entry}
+use Rattle.rart_maps.proofs.MoveLemmas.{first_entry}
 use Rattle.rart_maps.proofs.mapping.indexed_mapping.IndexedMapping.take_first.Goals as goal
 
 pub returns-clause-entries : goal.returns-clause-entries

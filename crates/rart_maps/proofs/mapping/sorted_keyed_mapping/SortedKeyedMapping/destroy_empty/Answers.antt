@@ -1,5 +1,5 @@
 use Rattle.std.proofs.Common.{sym, ap, ◌∙◌, length, arith}
-use Rattle.rart_parts.proofs.maps.SortedLemmas.{counted, no_items}
+use Rattle.rart_maps.proofs.SortedLemmas.{counted, no_items}
 use Rattle.rart_maps.proofs.mapping.sorted_keyed_mapping.SortedKeyedMapping.destroy_empty.Goals as goal
 
 pub destroy_empty-extra-requires : goal.destroy_empty-extra-requires

@@ -2,7 +2,7 @@ use Rattle.std.proofs.Common.{◌++◌, ◌∙◌, length, sym, ap, subst, arith
 use Rattle.std.specs.Prelude.{IsSome}
 use Rattle.rart_parts.specs.Entries.{sorted_entries, without_byte}
 use Rattle.rart_parts.proofs.entries.EntryLemmas.{length-without_byte}
-use Rattle.rart_parts.proofs.entries.MoveLemmas.{moved_absent, moved_next, moved_fits, next_first}
+use Rattle.rart_maps.proofs.MoveLemmas.{moved_absent, moved_next, moved_fits, next_first}
 use Rattle.rart_maps.proofs.mapping.sorted_keyed_mapping.SortedKeyedMapping.fill_from_indexed.Goals as goal
 
 pub unwrap-child-requires : goal.unwrap-child-requires

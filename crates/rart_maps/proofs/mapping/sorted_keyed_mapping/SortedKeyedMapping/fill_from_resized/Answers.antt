@@ -1,6 +1,6 @@
 use Rattle.std.proofs.Common.{◌∙◌, [], replicate, length, ap, refl, arith}
 use Rattle.std.proofs.lemmas.List.{length-replicate, get_or-replicate}
-use Rattle.rart_parts.proofs.maps.SortedLemmas.{counted, no_items, emptied, resized, resized_zip}
+use Rattle.rart_maps.proofs.SortedLemmas.{counted, no_items, emptied, resized, resized_zip}
 use Rattle.rart_maps.proofs.SortedEdits.{kept_by}
 use Rattle.rart_maps.proofs.mapping.sorted_keyed_mapping.SortedKeyedMapping.fill_from_resized.Goals as goal
 

@@ -2,7 +2,7 @@ use Rattle.std.proofs.Common.{◌∙◌, ap, subst, arith}
 use Rattle.rart_parts.specs.Entries.{BytesAscend, entries_above}
 use Rattle.rart_parts.specs.Keys.{IsFirstAbove}
 use Rattle.rart_parts.proofs.entries.EntryLemmas.{above-ascends, from_place}
-use Rattle.rart_parts.proofs.maps.SortedLemmas.{fits, zip_above}
+use Rattle.rart_maps.proofs.SortedLemmas.{fits, zip_above}
 use Rattle.rart_maps.proofs.SortedSearch.{searched}
 use Rattle.rart_maps.proofs.mapping.sorted_keyed_mapping.SortedKeyedMapping.iter_above.Goals as goal
 

@@ -1,6 +1,6 @@
 use Rattle.std.proofs.Common.{◌∙◌, ◌-◌, List, length, get_or, sym, ap, arith}
 use Rattle.rart_parts.specs.Entries.{child_at}
-use Rattle.rart_parts.proofs.maps.SortedLemmas.{counted}
+use Rattle.rart_maps.proofs.SortedLemmas.{counted}
 use Rattle.rart_maps.specs.Bounds.{bound_of}
 use Rattle.rart_maps.proofs.SortedSearch.{searched, none_below, last_below}
 use Rattle.rart_maps.proofs.mapping.sorted_keyed_mapping.SortedKeyedMapping.last_under.Goals as goal

@@ -1,5 +1,5 @@
 use Rattle.std.proofs.Common.{◌∙◌, ◌++◌, ◌∷◌, [], get_or, length, sym, ap, refl}
-use Rattle.rart_parts.proofs.maps.SortedLemmas.{last_entry, popped, popped_zip}
+use Rattle.rart_maps.proofs.SortedLemmas.{last_entry, popped, popped_zip}
 use Rattle.rart_maps.proofs.mapping.sorted_keyed_mapping.SortedKeyedMapping.take_last.Goals as goal
 
 pub invariant_of-self-2 : goal.invariant_of-self-2

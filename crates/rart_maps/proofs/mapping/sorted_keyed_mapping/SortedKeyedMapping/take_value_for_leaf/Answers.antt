@@ -1,6 +1,6 @@
 use Rattle.std.proofs.Common.{◌≡◌, ◌∙◌, ap, refl, set, remove, length, arith}
 use Rattle.std.proofs.lemmas.List.{length-set}
-use Rattle.rart_parts.proofs.maps.SortedLemmas.{counted, emptied, padded_alone, no_entries}
+use Rattle.rart_maps.proofs.SortedLemmas.{counted, emptied, padded_alone, no_entries}
 use Rattle.rart_maps.proofs.SortedEdits.{kept_by, same_zip, one_removed}
 use Rattle.rart_maps.proofs.mapping.sorted_keyed_mapping.SortedKeyedMapping.take_value_for_leaf.Goals as goal
 

@@ -1,7 +1,7 @@
 use Rattle.std.proofs.Common.{◌∙◌, length, subst, ap, arith}
 use Rattle.rart_parts.specs.Entries.{child_at, with_entry}
 use Rattle.rart_parts.specs.Keys.{IsFirstAbove}
-use Rattle.rart_parts.proofs.maps.SortedLemmas.{counted}
+use Rattle.rart_maps.proofs.SortedLemmas.{counted}
 use Rattle.rart_maps.proofs.SortedEdits.{kept_by, last_kept, last_zip, put_kept, put_zip}
 use Rattle.rart_maps.proofs.SortedSearch.{searched}
 use Rattle.rart_maps.proofs.mapping.sorted_keyed_mapping.SortedKeyedMappingNodeMapping.add_child.Goals as goal

@@ -1,7 +1,7 @@
 use Rattle.std.proofs.Common.{◌∙◌, get_or, sym, ap, arith}
 use Rattle.rart_parts.specs.Entries.{child_at}
-use Rattle.rart_parts.proofs.maps.Zipped.{child_none}
-use Rattle.rart_parts.proofs.maps.SortedLemmas.{counted}
+use Rattle.rart_maps.proofs.Zipped.{child_none}
+use Rattle.rart_maps.proofs.SortedLemmas.{counted}
 use Rattle.rart_maps.proofs.mapping.sorted_keyed_mapping.SortedKeyedMappingNodeMapping.num_children.Goals as goal
 
 pub returns-clause-count : goal.returns-clause-count

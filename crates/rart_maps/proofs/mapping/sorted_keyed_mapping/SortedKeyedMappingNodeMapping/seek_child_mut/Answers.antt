@@ -1,6 +1,6 @@
 use Rattle.std.proofs.Common.{◌∙◌, ap, refl}
 use Rattle.rart_parts.specs.Entries.{child_at, replaced_at}
-use Rattle.rart_parts.proofs.maps.SortedLemmas.{written}
+use Rattle.rart_maps.proofs.SortedLemmas.{written}
 use Rattle.rart_maps.proofs.SortedSearch.{searched, found, not_found, left_at}
 use Rattle.rart_maps.proofs.mapping.sorted_keyed_mapping.SortedKeyedMappingNodeMapping.seek_child_mut.Goals as goal
 

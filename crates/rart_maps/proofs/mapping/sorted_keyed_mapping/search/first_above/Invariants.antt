@@ -1,4 +1,4 @@
-use Rattle.rart_parts.proofs.maps.FirstAbove.{CountsBelow}
+use Rattle.rart_maps.proofs.FirstAbove.{CountsBelow}
 use Rattle.rart_maps.proofs.mapping.sorted_keyed_mapping.search.first_above.Given as goal
 
 abbrev pub invariant-loop-i : goal.invariant-loop-i

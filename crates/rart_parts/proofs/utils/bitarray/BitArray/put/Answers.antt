@@ -1,7 +1,7 @@
 use Rattle.std.proofs.Common.{◌≡◌, ◌∙◌, None, false, sym, ap, arith}
 use Rattle.rart_parts.specs.Places.{is_used}
 use Rattle.rart_parts.proofs.PlaceLemmas.{array_with, free_read}
-use Rattle.rart_parts.proofs.maps.DirectLemmas.{place_reads}
+use Rattle.rart_parts.proofs.PlaceLemmas.{place_reads}
 use Rattle.rart_parts.proofs.utils.bitarray.BitArray.put.Goals as goal
 
 pub fill_place-requires : goal.fill_place-requires

@@ -13,8 +13,8 @@ returns-then-keeps_kind-clause-capacity g c = c.delete_within.ensures.capacity
 pub replace_empty-requires-clause-entries : goal.replace_empty-requires-clause-entries
 replace_empty-requires-clause-entries g c =
     let few = rw c.in-Node4.is at c.keeps_kind.ensures.changed_kind c.if-keeps_kind.false in
-    rw (c.deref_mut-in-Node4.ensures.value, c.delete_child-child.ensures.rest, c.deref_mut.ensures.value)
-    (none-left c.args.b c.in-Node4.inner.value.map few.0 few.1)
+    rw (c.delete_child-child.ensures.rest, c.in-Node4.map-is)
+    (none-left c.args.b c.in-Node4.map.entries few.0 few.1)
 
 pub fill_from_resized-requires : goal.fill_from_resized-requires
 fill_from_resized-requires g c =
@@ -23,13 +23,12 @@ fill_from_resized-requires g c =
       (
         omega arith,
         (
-          rw c.deref_mut-in-Node16-2.ensures.value c.in_ok-next-in-Node16.ensures.entries,
+          c.in_ok-next-in-Node16.ensures.entries,
           rw (
-            c.deref_mut-in-Node16-3.ensures.value,
             c.delete_child-child-in-Node16.ensures.rest,
-            c.deref_mut-in-Node16.ensures.value,
+            c.in-Node16.map-is,
           )
-              (few-left c.args.b 4 c.in-Node16.inner.value.map few.0 few.1),
+              (few-left c.args.b 4 c.in-Node16.map.entries few.0 few.1),
         ),
       ),
     )
@@ -41,13 +40,12 @@ fill_from_indexed-requires g c =
       (
         omega arith,
         (
-          rw c.deref_mut-in-Node48-2.ensures.value c.in_ok-next-in-Node48.ensures.entries,
+          c.in_ok-next-in-Node48.ensures.entries,
           rw (
-            c.deref_mut-in-Node48-3.ensures.value,
             c.delete_child-child-in-Node48.ensures.rest,
-            c.deref_mut-in-Node48.ensures.value,
+            c.in-Node48.map-is,
           )
-              (few-left c.args.b 16 (sorted_entries c.in-Node48.inner.value.map) few.0 few.1),
+              (few-left c.args.b 16 (sorted_entries c.in-Node48.map.entries) few.0 few.1),
         ),
       ),
     )
@@ -57,13 +55,12 @@ fill_from_direct-requires g c =
     let few = rw c.in-Node256.is at c.keeps_kind.ensures.changed_kind c.if-keeps_kind.false in (
       omega arith,
       (
-        rw c.deref_mut-in-Node256-2.ensures.value c.in_ok-next-in-Node256.ensures.entries,
+        c.in_ok-next-in-Node256.ensures.entries,
         rw (
-          c.deref_mut-in-Node256-3.ensures.value,
           c.delete_child-child-in-Node256.ensures.rest,
-          c.deref_mut-in-Node256.ensures.value,
+          c.in-Node256.map-is,
         )
-            (few-left c.args.b 48 c.in-Node256.inner.value.map few.0 few.1),
+            (few-left c.args.b 48 c.in-Node256.map.entries few.0 few.1),
       ),
     )
 
@@ -71,7 +68,7 @@ pub returns-in-Node4-clause-entries : goal.returns-in-Node4-clause-entries
 returns-in-Node4-clause-entries g c =
     let few = rw c.in-Node4.is at c.keeps_kind.ensures.changed_kind c.if-keeps_kind.false in
     rw (c.replace_empty.ensures, c.childless.ensures.entries, c.in-Node4.is) (sym (none-left c.args.b
-    c.in-Node4.inner.value.map few.0 few.1))
+    c.in-Node4.map.entries few.0 few.1))
 
 pub returns-in_ok-next-in-Node16-clause-capacity : goal.returns-in_ok-next-in-Node16-clause-capacity
 returns-in_ok-next-in-Node16-clause-capacity g c =
@@ -79,12 +76,10 @@ returns-in_ok-next-in-Node16-clause-capacity g c =
     rw (
       c.replace_empty-in-Node16.ensures,
       c.in-Node16.is,
-      c.deref_mut-in-Node16-4.ensures.value,
       c.fill_from_resized.ensures.filled,
-      c.deref_mut-in-Node16-3.ensures.value,
       c.delete_child-child-in-Node16.ensures.rest,
-      c.deref_mut-in-Node16.ensures.value,
-    ) (capacity-given c.args.b 16 c.in-Node16.inner.value.map few.0 few.1)
+      c.in-Node16.map-is,
+    ) (capacity-given c.args.b 16 c.in-Node16.map.entries few.0 few.1)
 
 pub returns-in_ok-next-in-Node48-clause-capacity : goal.returns-in_ok-next-in-Node48-clause-capacity
 returns-in_ok-next-in-Node48-clause-capacity g c =
@@ -92,12 +87,10 @@ returns-in_ok-next-in-Node48-clause-capacity g c =
     rw (
       c.replace_empty-in-Node48.ensures,
       c.in-Node48.is,
-      c.deref_mut-in-Node48-4.ensures.value,
       c.fill_from_indexed.ensures.filled,
-      c.deref_mut-in-Node48-3.ensures.value,
       c.delete_child-child-in-Node48.ensures.rest,
-      c.deref_mut-in-Node48.ensures.value,
-    ) (capacity-given c.args.b 48 (sorted_entries c.in-Node48.inner.value.map) few.0 few.1)
+      c.in-Node48.map-is,
+    ) (capacity-given c.args.b 48 (sorted_entries c.in-Node48.map.entries) few.0 few.1)
 
 pub returns-in_ok-next-in-Node256-clause-capacity : goal.returns-in_ok-next-in-Node256-clause-capacity
 returns-in_ok-next-in-Node256-clause-capacity g c =
@@ -105,9 +98,7 @@ returns-in_ok-next-in-Node256-clause-capacity g c =
     rw (
       c.replace_empty-in-Node256.ensures,
       c.in-Node256.is,
-      c.deref_mut-in-Node256-4.ensures.value,
       c.fill_from_direct.ensures.filled,
-      c.deref_mut-in-Node256-3.ensures.value,
       c.delete_child-child-in-Node256.ensures.rest,
-      c.deref_mut-in-Node256.ensures.value,
-    ) (capacity-given c.args.b 256 c.in-Node256.inner.value.map few.0 few.1)
+      c.in-Node256.map-is,
+    ) (capacity-given c.args.b 256 c.in-Node256.map.entries few.0 few.1)

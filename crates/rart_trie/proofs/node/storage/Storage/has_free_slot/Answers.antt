@@ -7,9 +7,9 @@ use Rattle.rart_trie.proofs.node.storage.Storage.has_free_slot.Goals as goal
 pub returns-in-Node256-clause-not_widest : goal.returns-in-Node256-clause-not_widest
 returns-in-Node256-clause-not_widest g c =
     let n = c.num_children-in-Node256.ensures in
-    let es = c.deref-in-Node256.result.now.map in
-    let absent : child_at c.args.b es ≡ None = ap (λ i. child_at c.args.b i.map) c.deref-in-Node256.ensures
-    ∙ sym (ap (λ s. child_at c.args.b (child_entries s)) c.in-Node256.is) ∙ c.requires in
+    let es = c.in-Node256.map.entries in
+    let absent : child_at c.args.b es ≡ None = sym (ap (λ s. child_at c.args.b (child_entries s)) c.in-Node256.is)
+    ∙ c.requires in
     let less : c.num_children-in-Node256.result < 256
     = omega (
       arith,

@@ -1,6 +1,5 @@
 use Rattle.std.proofs.Common.{sym, ap, ◌∙◌, ◌≡◌, refl, Option, None, Some, ℕ, List}
 use Rattle.std.specs.Prelude.{OnSome}
-use Rattle.std.specs.Box.{with_value}
 use Rattle.rart_parts.specs.Entries.{child_at, replaced_at, sorted_entries}
 use Rattle.rart_trie.specs.declared.node.storage.Storage.{Storage}
 use Rattle.rart_trie.specs.declared.node.storage.Storage.TheVariants.{Node4, Node16, Node48, Node256}
@@ -8,35 +7,28 @@ use Rattle.rart_trie.specs.storages.Stored.{child_entries, storage_capacity, sto
 use Rattle.rart_trie.proofs.node.storage.Storage.seek_child_mut.Goals as goal
 
 -- a storage and what it ends as are s and t, of one kind
-module _ {V N : Type 0} {old s new t : Storage V N} {es : List (ℕ × N)} (old-is : old ≡ s) (new-is : new ≡ t)
-    (same : storage_capacity t ≡ storage_capacity s) (es-are : es ≡ child_entries s)
-    (value-is : stored_value t ≡ stored_value s) where
-  stores_lent : {A : Type 0} (b : ℕ) (w : N) (r : Option A) → OnSome r (child_entries t ≡ replaced_at b w es)
-      → StoresLent b w r old new
+module _ {V N : Type 0} {old s new t : Storage V N} {es : List (ℕ × N)} {v : Option V} (old-is : old ≡ s)
+    (new-is : new ≡ t) (same : storage_capacity t ≡ storage_capacity s) (es-are : es ≡ child_entries s)
+    (value-is : v ≡ stored_value s) where
+  stores_lent : {A : Type 0} (b : ℕ) (w : N) (r : Option A)
+      → OnSome r ((child_entries t ≡ replaced_at b w es) × (stored_value t ≡ v)) → StoresLent b w r old new
   stores_lent b w None lent = tt
-  stores_lent b w (Some x) lent = rw (old-is, new-is) (same, lent ∙ ap (replaced_at b w) es-are, value-is)
+  stores_lent b w (Some x) lent = rw (old-is, new-is)
+      (same, lent.0 ∙ ap (replaced_at b w) es-are, lent.1 ∙ value-is)
 
-  stores_same : child_entries t ≡ es → StoresSame old new
-  stores_same kept = rw (old-is, new-is) (same, kept ∙ es-are, value-is)
+  stores_same : (child_entries t ≡ es) × (stored_value t ≡ v) → StoresSame old new
+  stores_same kept = rw (old-is, new-is) (same, kept.0 ∙ es-are, kept.1 ∙ value-is)
 
 pub returns-in-Node4 : goal.returns-in-Node4
 returns-in-Node4 g c =
-    let d : c.deref_mut.result.now ≡ c.in-Node4.inner.value = c.deref_mut.ensures.value
-    ∙ ap (λ m. m.value) c.in-Node4.inner-is in
-    let es-are = ap (λ i. i.map) d in
-    let value-is = ap (λ i. i.value) d in (
+    let es-are = ap (λ m. m.entries) c.in-Node4.map-is in
+    let value-is = ap (λ m. m.extra) c.in-Node4.map-is in (
       (
         refl,
-        λ w. stores_lent {t = Node4 (with_value c.in-Node4.inner (record {
-          value = c.deref_mut.result.now.value;
-          map = c.seek_child_mut.follows.lender w;
-        }))} c.in-Node4.is (rw c.in-Node4.is refl) refl es-are value-is c.args.b w
-            c.seek_child_mut.result (c.seek_child_mut.follows.holds w),
-        stores_same {t = Node4 (with_value c.in-Node4.inner (record {
-          value = c.deref_mut.result.now.value;
-          map = c.seek_child_mut.follows.lender-at-none;
-        }))} c.in-Node4.is (rw c.in-Node4.is refl) refl es-are value-is
-            c.seek_child_mut.follows.holds-at-none,
+        λ w. stores_lent {t = Node4 (c.seek_child_mut.follows.lender w)} c.in-Node4.is (rw c.in-Node4.is refl)
+            refl es-are value-is c.args.b w c.seek_child_mut.result (c.seek_child_mut.follows.holds w),
+        stores_same {t = Node4 c.seek_child_mut.follows.lender-at-none} c.in-Node4.is (rw c.in-Node4.is refl)
+            refl es-are value-is c.seek_child_mut.follows.holds-at-none,
       ),
       record {
         writes_back = tt;
@@ -47,22 +39,14 @@ returns-in-Node4 g c =
 
 pub returns-in-Node16 : goal.returns-in-Node16
 returns-in-Node16 g c =
-    let d : c.deref_mut-in-Node16.result.now ≡ c.in-Node16.inner.value = c.deref_mut-in-Node16.ensures.value
-    ∙ ap (λ m. m.value) c.in-Node16.inner-is in
-    let es-are = ap (λ i. i.map) d in
-    let value-is = ap (λ i. i.value) d in (
+    let es-are = ap (λ m. m.entries) c.in-Node16.map-is in
+    let value-is = ap (λ m. m.extra) c.in-Node16.map-is in (
       (
         refl,
-        λ w. stores_lent {t = Node16 (with_value c.in-Node16.inner (record {
-          value = c.deref_mut-in-Node16.result.now.value;
-          map = c.seek_child_mut-in-Node16.follows.lender w;
-        }))} c.in-Node16.is (rw c.in-Node16.is refl) refl es-are value-is c.args.b w
-            c.seek_child_mut-in-Node16.result (c.seek_child_mut-in-Node16.follows.holds w),
-        stores_same {t = Node16 (with_value c.in-Node16.inner (record {
-          value = c.deref_mut-in-Node16.result.now.value;
-          map = c.seek_child_mut-in-Node16.follows.lender-at-none;
-        }))} c.in-Node16.is (rw c.in-Node16.is refl) refl es-are value-is
-            c.seek_child_mut-in-Node16.follows.holds-at-none,
+        λ w. stores_lent {t = Node16 (c.seek_child_mut-in-Node16.follows.lender w)} c.in-Node16.is (rw c.in-Node16.is refl)
+            refl es-are value-is c.args.b w c.seek_child_mut-in-Node16.result (c.seek_child_mut-in-Node16.follows.holds w),
+        stores_same {t = Node16 c.seek_child_mut-in-Node16.follows.lender-at-none} c.in-Node16.is (rw c.in-Node16.is refl)
+            refl es-are value-is c.seek_child_mut-in-Node16.follows.holds-at-none,
       ),
       record {
         writes_back = tt;
@@ -73,22 +57,14 @@ returns-in-Node16 g c =
 
 pub returns-in-Node48 : goal.returns-in-Node48
 returns-in-Node48 g c =
-    let d : c.deref_mut-in-Node48.result.now ≡ c.in-Node48.inner.value = c.deref_mut-in-Node48.ensures.value
-    ∙ ap (λ m. m.value) c.in-Node48.inner-is in
-    let es-are = ap (λ i. sorted_entries i.map) d in
-    let value-is = ap (λ i. i.value) d in (
+    let es-are = ap (λ m. sorted_entries m.entries) c.in-Node48.map-is in
+    let value-is = ap (λ m. m.extra) c.in-Node48.map-is in (
       (
         refl,
-        λ w. stores_lent {t = Node48 (with_value c.in-Node48.inner (record {
-          value = c.deref_mut-in-Node48.result.now.value;
-          map = c.seek_child_mut-in-Node48.follows.lender w;
-        }))} c.in-Node48.is (rw c.in-Node48.is refl) refl es-are value-is c.args.b w
-            c.seek_child_mut-in-Node48.result (c.seek_child_mut-in-Node48.follows.holds w),
-        stores_same {t = Node48 (with_value c.in-Node48.inner (record {
-          value = c.deref_mut-in-Node48.result.now.value;
-          map = c.seek_child_mut-in-Node48.follows.lender-at-none;
-        }))} c.in-Node48.is (rw c.in-Node48.is refl) refl es-are value-is
-            c.seek_child_mut-in-Node48.follows.holds-at-none,
+        λ w. stores_lent {t = Node48 (c.seek_child_mut-in-Node48.follows.lender w)} c.in-Node48.is (rw c.in-Node48.is refl)
+            refl es-are value-is c.args.b w c.seek_child_mut-in-Node48.result (c.seek_child_mut-in-Node48.follows.holds w),
+        stores_same {t = Node48 c.seek_child_mut-in-Node48.follows.lender-at-none} c.in-Node48.is (rw c.in-Node48.is refl)
+            refl es-are value-is c.seek_child_mut-in-Node48.follows.holds-at-none,
       ),
       record {
         writes_back = tt;
@@ -99,22 +75,14 @@ returns-in-Node48 g c =
 
 pub returns-in-Node256 : goal.returns-in-Node256
 returns-in-Node256 g c =
-    let d : c.deref_mut-in-Node256.result.now ≡ c.in-Node256.inner.value = c.deref_mut-in-Node256.ensures.value
-    ∙ ap (λ m. m.value) c.in-Node256.inner-is in
-    let es-are = ap (λ i. i.map) d in
-    let value-is = ap (λ i. i.value) d in (
+    let es-are = ap (λ m. m.entries) c.in-Node256.map-is in
+    let value-is = ap (λ m. m.extra) c.in-Node256.map-is in (
       (
         refl,
-        λ w. stores_lent {t = Node256 (with_value c.in-Node256.inner (record {
-          value = c.deref_mut-in-Node256.result.now.value;
-          map = c.seek_child_mut-in-Node256.follows.lender w;
-        }))} c.in-Node256.is (rw c.in-Node256.is refl) refl es-are value-is c.args.b w
-            c.seek_child_mut-in-Node256.result (c.seek_child_mut-in-Node256.follows.holds w),
-        stores_same {t = Node256 (with_value c.in-Node256.inner (record {
-          value = c.deref_mut-in-Node256.result.now.value;
-          map = c.seek_child_mut-in-Node256.follows.lender-at-none;
-        }))} c.in-Node256.is (rw c.in-Node256.is refl) refl es-are value-is
-            c.seek_child_mut-in-Node256.follows.holds-at-none,
+        λ w. stores_lent {t = Node256 (c.seek_child_mut-in-Node256.follows.lender w)} c.in-Node256.is (rw c.in-Node256.is refl)
+            refl es-are value-is c.args.b w c.seek_child_mut-in-Node256.result (c.seek_child_mut-in-Node256.follows.holds w),
+        stores_same {t = Node256 c.seek_child_mut-in-Node256.follows.lender-at-none} c.in-Node256.is (rw c.in-Node256.is refl)
+            refl es-are value-is c.seek_child_mut-in-Node256.follows.holds-at-none,
       ),
       record {
         writes_back = tt;

@@ -1,8 +1,7 @@
 use Rattle.std.proofs.Common.{◌∙◌, sym, subst}
 use Rattle.std.proofs.lemmas.Bool.{false≢true, lt-ltb}
 use Rattle.std.proofs.lemmas.Option.{none-some}
-use Rattle.rart_parts.proofs.PlaceLemmas.{used_place, used_read}
-use Rattle.rart_parts.proofs.maps.DirectLemmas.{place_reads}
+use Rattle.rart_parts.proofs.PlaceLemmas.{place_reads, used_place, used_read}
 use Rattle.rart_maps.specs.Direct.{AreFilled}
 use Rattle.rart_maps.proofs.mapping.direct_mapping.iter.DirectMappingIterIterator.next.Goals as goal
 

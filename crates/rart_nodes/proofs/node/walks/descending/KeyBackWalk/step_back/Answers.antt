@@ -1,4 +1,5 @@
 use Rattle.std.proofs.Common.{arith, length, ap, sym, ◌∙◌, ◌∷◌, ◌++◌, [], List, ℕ, reverse}
+use Rattle.std.proofs.lemmas.List.{length-append}
 use Rattle.rart_trie.specs.walks.Walk.{join_all}
 use Rattle.rart_nodes.specs.ranges.BackWalk.{remaining_entries}
 use Rattle.rart_nodes.specs.walks.PathParts.{byte_segments, kept_bytes}
@@ -12,14 +13,14 @@ invariant_of-self g c
     = key-walk c.retreat.ensures.path c.retreat.ensures.reserved (omega (arith, c.retreat.ensures.longest))
     c.self.invariant.within
 
-pub new_from_slice-requires : goal.new_from_slice-requires
-new_from_slice-requires g c =
+pub joined-requires : goal.joined-requires
+joined-requires g c =
     fewer-within _ _ _ (omega (
       arith,
       c.retreat.ensures.path.short,
       length-bytes (kept_bytes c.retreat.new.path),
-      ap length
-          c.key.ensures,
+      ap length c.parts.ensures,
+      length-append c.parts.result.0.now c.parts.result.1.now,
       c.retreat.ensures.longest,
     )) c.self.invariant.within
 
@@ -37,4 +38,4 @@ returns-clause-pairs g c =
     sym c.self.view_is ∙ ap join_all c.in_ok-value.ensures.entries
     ∙ join-append rest ((k, c.in_ok-value.value.now) ∷ [])
     ∙ ap (λ (k : List ℕ). join_all rest ++ (k, c.in_ok-value.value.now) ∷ []) (joins-bytes bytes
-    ∙ sym c.key.ensures ∙ sym c.new_from_slice.ensures)
+    ∙ c.parts.ensures ∙ sym c.joined.ensures)

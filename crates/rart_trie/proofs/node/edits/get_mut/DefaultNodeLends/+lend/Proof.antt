@@ -171,7 +171,7 @@ module _ {M : Type 1} (𝓤 : Ura M) (𝓛 : Logic 𝓤) (𝓜 : Model 𝓤 𝓛
         let O = on_entry 𝓛 (lend.signature P V g d dd) y.0.0 y.0.1 y.0.3 y.0.4 in
         let F₁ = y.0.0.1.1.0 ⊑ P.lives in let F₂ = y.0.0.1.1.1.0 ⊑ V.lives in let F₃ = IsCanonical y.0.3.0.now in
         let R = sep 𝓤 (fact 𝓤 F₁) (sep 𝓤 (fact 𝓤 F₂) (fact 𝓤 F₃)) in
-        fact_use 𝓤 (F₁ × F₂ × F₃) (via 𝓤 R (snd∗ 𝓤 O R) (three 𝓤 F₁ F₂ F₃)) (λ fs.
+        fact_use 𝓤 {P = C.pre y} {Q = (D t).pre y} (F₁ × F₂ × F₃) (via 𝓤 R (snd∗ 𝓤 O R) (three 𝓤 F₁ F₂ F₃)) (λ fs.
         mono_r 𝓤 O (beside 𝓤 F₁ fs.0 (beside 𝓤 F₂ fs.1
         (beside 𝓤 F₃ fs.2 (beside 𝓤 _ (λ n c less. (c, subst (λ u. node_count n < u) e less))
         (beside 𝓤 _ (λ n k. refl) (fact_i 𝓤 _ R (λ n k w. refl))))))))

@@ -1,0 +1,13 @@
+use Rattle.rart_nodes.proofs.node.seen.Seen.try_prefix_for_each_view_by_ref_k_counted.Goals as goal
+
+pub try_prefix_for_each_view_by_ref_bytes_counted-requires : goal.try_prefix_for_each_view_by_ref_bytes_counted-requires
+try_prefix_for_each_view_by_ref_bytes_counted-requires g c
+    = record { callable = rw c.as_ref.ensures c.requires.callable }
+
+pub returns-clause-calls : goal.returns-clause-calls
+returns-clause-calls g c
+    = rw (← c.as_ref.ensures) c.try_prefix_for_each_view_by_ref_bytes_counted.ensures.calls
+
+pub returns-clause-by_calls : goal.returns-clause-by_calls
+returns-clause-by_calls g c
+    = rw (← c.as_ref.ensures) c.try_prefix_for_each_view_by_ref_bytes_counted.ensures.by_calls
