@@ -21,6 +21,7 @@ use crate::order_key::{ByOrder, OrderKey};
 use crate::pairs::{Orders, orders_of};
 use crate::readings::{Readings, readings_between};
 use crate::shared::count_shared;
+use rart::KeyTrait;
 use std::alloc::Global;
 use std::io;
 
@@ -64,6 +65,18 @@ fn print_order(rt: &impl Print, orders: &ByOrder) -> io::Result<()> {
     }
 }
 
+// A walk makes its keys.
+fn print_keys(rt: &impl Print, orders: &ByOrder) -> io::Result<()> {
+    let Ok(found) = orders.iter() else {
+        return println!(rt; "out of memory");
+    };
+    for (key, order) in found {
+        let bytes = key.as_ref();
+        println!(rt; "key {bytes:?}: order {order}")?;
+    }
+    Ok(())
+}
+
 // The readings between two times leave out the end.
 fn print_readings(rt: &impl Print, readings: &Readings, end: u64) -> io::Result<()> {
     let Ok(found) = readings_between(readings, 15, end) else {
@@ -93,7 +106,10 @@ fn print_numbers(rt: &impl Print, alloc: Global) -> io::Result<()> {
         Err(_) => println!(rt; "out of memory")?,
     }
     match rows::by_order(alloc) {
-        Ok(orders) => print_order(rt, &orders)?,
+        Ok(orders) => {
+            print_order(rt, &orders)?;
+            print_keys(rt, &orders)?;
+        }
         Err(_) => println!(rt; "out of memory")?,
     }
     match rows::readings(alloc) {

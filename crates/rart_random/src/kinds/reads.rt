@@ -36,6 +36,32 @@ fn longest<K: KeyTrait + Drop>(tree: &Tree<K>, key: &K, probe: &Text) -> u64 {
     mix(mix(by_key, by_bytes), sum_of(len))
 }
 
+// The four pairs nearest to bytes, which may be more than a key has.
+fn nearest<K: KeyTrait + Drop>(tree: &Tree<K>, probe: &[u8]) -> u64 {
+    let from = mix(
+        sum_of_pair(tree.first_at_or_after_bytes(probe)),
+        sum_of_pair(tree.first_after_bytes(probe)),
+    );
+    let to = mix(
+        sum_of_pair(tree.last_at_or_before_bytes(probe)),
+        sum_of_pair(tree.last_before_bytes(probe)),
+    );
+    mix(from, to)
+}
+
+// The four pairs nearest to a key.
+fn nearest_to_key<K: KeyTrait + Drop>(tree: &Tree<K>, key: &K) -> u64 {
+    let from = mix(
+        sum_of_pair(tree.first_at_or_after_k(key)),
+        sum_of_pair(tree.first_after_k(key)),
+    );
+    let to = mix(
+        sum_of_pair(tree.last_at_or_before_k(key)),
+        sum_of_pair(tree.last_before_k(key)),
+    );
+    mix(from, to)
+}
+
 /// The sum of the first and of the last pair.
 pub fn ends<K: KeyTrait + Drop>(tree: &Tree<K>) -> u64 {
     mix(
@@ -83,8 +109,11 @@ fn match_for_each_bytes<K: KeyTrait>(tree: &Tree<K>, probe: &[u8]) -> u64 {
 /// The call about one key or probe.
 pub fn look<K: KeyTrait + Drop>(tree: &Tree<K>, key: &K, probe: &Text, call: &Call) -> u64 {
     match call.kind {
-        9 => get(tree, key),
-        10 => sum_of(tree.get_bytes(probe.as_slice()).copied()),
+        9 => mix(get(tree, key), nearest_to_key(tree, key)),
+        10 => {
+            let found = sum_of(tree.get_bytes(probe.as_slice()).copied());
+            mix(found, nearest(tree, probe.as_slice()))
+        }
         11 => longest(tree, key, probe),
         12 => sum_of(tree.longest_prefix_value_bytes(probe.as_slice()).copied()),
         13 => matches(tree, key, most_of(call)),

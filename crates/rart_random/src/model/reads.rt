@@ -59,6 +59,23 @@ fn pair_at(model: &Model, place: usize) -> u64 {
     }
 }
 
+fn pair_before(model: &Model, place: usize) -> u64 {
+    if place == 0 {
+        5
+    } else {
+        pair_at(model, place.wrapping_sub(1))
+    }
+}
+
+// The four pairs nearest to a probe.
+fn nearest(model: &Model, probe: &Text) -> u64 {
+    let at = model.search(probe, Mark::Before);
+    let after = model.search(probe, Mark::After);
+    let from = mix(pair_at(model, at), pair_at(model, after));
+    let to = mix(pair_before(model, after), pair_before(model, at));
+    mix(from, to)
+}
+
 /// The sum of the first and of the last pair from a place to another.
 pub fn ends(model: &Model, from: usize, to: usize) -> u64 {
     if from < to {
@@ -73,9 +90,10 @@ pub fn look(model: &Model, key: &Text, probe: &Text, call: &Call) -> u64 {
     match call.kind {
         9 => {
             let found = sum_of(model.get(key));
-            mix(mix(found, found), sum_if(model.get(key).is_some()))
+            let got = mix(mix(found, found), sum_if(model.get(key).is_some()));
+            mix(got, nearest(model, key))
         }
-        10 => sum_of(model.get(probe)),
+        10 => mix(sum_of(model.get(probe)), nearest(model, probe)),
         11 => {
             let len = longest(model, probe).map(|pair| mix(pair.0.len() as u64, pair.1));
             mix(
