@@ -1,0 +1,15 @@
+-- The size of a pointer, which each drop of a block requires.
+use Rattle.std.proofs.Common.{arith}
+use Rattle.rart_nodes_tests.proofs.kinds.read_filled.Goals as goal
+
+pub drop-node-inside-requires : goal.drop-node-inside-requires
+drop-node-inside-requires g c = omega arith
+
+pub drop-requires : goal.drop-requires
+drop-requires g c = omega arith
+
+pub drop-requires-2 : goal.drop-requires-2
+drop-requires-2 g c = omega arith
+
+pub drop-requires-3 : goal.drop-requires-3
+drop-requires-3 g c = omega arith
