@@ -1,48 +1,68 @@
-//! Rows of calls on networks that are given as texts, for tables of either version.
+//! Calls on networks and on a table of them as rows, with networks and addresses as texts, for either version.
 
 use std::cmp::Ordering;
 
 /// A network and its target.
-pub type Route = (&'static str, u64);
+pub type RouteText = (&'static str, u64);
 
 /// A call.
 #[derive(Clone, Copy)]
 pub enum Ask {
     /// Inserts a route.
     Insert(&'static str, u64),
+    /// Removes the route of exactly this network.
+    Remove(&'static str),
     /// Writes a target through `get_mut`.
     Write(&'static str, u64),
-    /// The target of exactly this network.
+    /// Looks up exactly this network.
     Get(&'static str),
-    /// The route with the longest network that covers this one, by walk and by lengths.
+    /// Finds the route with the longest network that contains this address, by descent and by lengths.
+    Route(&'static str),
+    /// Finds the route with the longest network that contains this network, by descent and by lengths.
     Covers(&'static str),
-    /// The routes with a network that covers this one, the shortest first.
+    /// Walks the routes whose networks contain this address, the shortest first.
+    Covering(&'static str),
+    /// Walks the routes whose networks contain this network, the shortest first.
     CoversAll(&'static str),
-    /// The network of this length that contains the first.
-    Supernet(&'static str, u8),
-    /// The order of the bits of two networks.
-    Order(&'static str, &'static str),
-    /// What a text that is no network is refused for.
+    /// Walks the routes inside this network, in order.
+    Inside(&'static str),
+    /// Walks all routes, in order.
+    All,
+    /// Counts what a longest match of this network reads.
+    Reads(&'static str),
+    /// Makes the network of an address and a length.
+    Network(&'static str, u8),
+    /// Parses a text that is no network.
     Parse(&'static str),
-    /// Removes all routes.
+    /// Shortens a network to this length.
+    Supernet(&'static str, u8),
+    /// Compares two networks.
+    Order(&'static str, &'static str),
+    /// Removes all routes, and then counts them.
     Clear,
-    /// How many routes there are, and whether there is none.
+    /// Counts the routes.
     Len,
 }
 
-/// What it returns.
+/// What the call returns.
 #[derive(Clone, Copy)]
 pub enum Reply {
     Value(Option<u64>),
     Net(&'static str),
-    Route(Route),
+    Route(RouteText),
     None,
-    Routes(&'static [Route]),
+    Routes(&'static [RouteText]),
+    Count(usize),
+    /// How many nodes of the map of strides are entered, how many strides are read, and the network that is found.
+    Reads(usize, usize, Option<&'static str>),
     Order(Ordering),
     BadAddress,
     BadLength,
     HostBits,
-    Count(usize, bool),
 }
 
+/// A call and what it returns.
 pub type Row = (Ask, Reply);
+
+/// No target.
+pub const NEW: Reply = Reply::Value(None);

@@ -1,4 +1,5 @@
-//! Tests of networks and of the tables of networks over their public calls, beside slow models.
+//! Tests of networks and of the tables of networks over their public calls, of both versions, as rows and beside slow
+//! models.
 //!
 //! Nothing depends on this crate, and it is no part of the product.
 #![tactic(auto)]
@@ -6,34 +7,30 @@
 #[cfg(test)]
 mod calls;
 #[cfg(test)]
-mod calls4;
+mod checks;
 #[cfg(test)]
-mod calls6;
+mod drops;
 #[cfg(test)]
-mod drops4;
+mod each_call;
+#[cfg(test)]
+mod edits;
 #[cfg(test)]
 mod model;
 #[cfg(test)]
-mod quiet;
+mod nested;
+#[cfg(test)]
+mod player;
 #[cfg(test)]
 mod random;
 #[cfg(test)]
-mod refused4;
+mod reads;
 #[cfg(test)]
-mod refused6;
+mod removals;
 #[cfg(test)]
 mod rows;
 #[cfg(test)]
-mod rows4;
-#[cfg(test)]
-mod rows6;
-#[cfg(test)]
 mod short;
-#[cfg(test)]
-mod strides;
 #[cfg(test)]
 mod tables;
 #[cfg(test)]
-mod walks4;
-#[cfg(test)]
-mod walks6;
+mod walks;

@@ -1,6 +1,6 @@
 //! A slow model of a table of networks: its routes in any order, and answers by going through all of them.
 
-use crate::tables::Table;
+use crate::tables::{Table, host};
 
 /// A network: its first address as a number of 128 bits, which begins with the address's, and its length. Networks are
 /// ordered by address, then by length.
@@ -13,19 +13,16 @@ pub struct Network {
 /// A network and its target.
 pub type Route = (Network, u64);
 
-/// The networks that contain an address, or those inside a network.
+/// The networks that a walk gives.
 #[derive(Clone, Copy)]
 pub enum Group {
+    /// Those that contain an address.
     Around(u128),
+    /// Those that contain a network.
+    Covering(Network),
+    /// Those inside a network.
     Inside(Network),
-}
-
-/// What a walk gave so far.
-#[derive(Clone, Copy)]
-pub struct Seen {
-    count: usize,
-    last: Option<Network>,
-    is_right: bool,
+    All,
 }
 
 impl Network {
@@ -52,38 +49,10 @@ impl Group {
     fn has(self, net: &Network) -> bool {
         match self {
             Group::Around(addr) => net.contains(addr),
+            Group::Covering(inner) => net.len <= inner.len && net.contains(inner.addr),
             Group::Inside(outer) => outer.len <= net.len && outer.contains(net.addr),
+            Group::All => true,
         }
-    }
-}
-
-impl Seen {
-    pub fn new() -> Seen {
-        Seen {
-            count: 0,
-            last: None,
-            is_right: true,
-        }
-    }
-
-    /// Returns what a refused walk counts as: it is wrong for any group, an empty one too.
-    pub fn refused() -> Seen {
-        Seen {
-            count: 0,
-            last: None,
-            is_right: false,
-        }
-    }
-
-    /// Adds a route, which is wrong if it isn't of the group, doesn't come after the last one, or isn't in `routes`.
-    pub fn add(&mut self, routes: &[Route], group: Group, route: Route) {
-        let (net, target) = route;
-        self.is_right = self.is_right
-            && self.last < Some(net)
-            && group.has(&net)
-            && target_of(routes, &net) == Some(target);
-        self.last = Some(net);
-        self.count = self.count.wrapping_add(1);
     }
 }
 
@@ -123,21 +92,38 @@ fn count_of(routes: &[Route], group: Group) -> usize {
     count
 }
 
+// Whether these are the routes of a group, in order.
+fn are_of(given: &[Route], routes: &[Route], group: Group) -> bool {
+    let mut last: Option<Network> = None;
+    for (net, target) in given {
+        if last >= Some(*net) || !group.has(net) || target_of(routes, net) != Some(*target) {
+            return false;
+        }
+        last = Some(*net);
+    }
+    given.len() == count_of(routes, group)
+}
+
 /// Returns whether the table's walk of a group gives the routes of the model in order.
-pub fn is_walked<T: Table>(table: &T, routes: &[Route], group: Group) -> bool {
-    let seen = table.walk(routes, group);
-    seen.is_right && seen.count == count_of(routes, group)
+pub fn is_walked<T: Table>(
+    table: &T,
+    given: &mut Vec<Route>,
+    routes: &[Route],
+    group: Group,
+) -> bool {
+    given.clear();
+    table.walk(group, given).is_ok() && are_of(given.as_slice(), routes, group)
 }
 
 /// Returns whether table and model have the same longest match of `addr`.
 pub fn is_longest<T: Table>(table: &T, routes: &[Route], addr: u128) -> bool {
     let wanted = longest(routes, addr);
-    table.longest(addr) == wanted && table.longest_by_each_length(addr) == wanted
+    table.longest(addr) == wanted && table.longest_of_net(host::<T>(addr)) == (wanted, wanted)
 }
 
 /// Returns whether table and model answer alike about `addr`.
-pub fn is_alike<T: Table>(table: &T, routes: &[Route], addr: u128) -> bool {
-    is_longest(table, routes, addr) && is_walked(table, routes, Group::Around(addr))
+pub fn is_alike<T: Table>(table: &T, given: &mut Vec<Route>, routes: &[Route], addr: u128) -> bool {
+    is_longest(table, routes, addr) && is_walked(table, given, routes, Group::Around(addr))
 }
 
 /// Inserts into the routes, and returns the old target; or `None` where there is no memory.

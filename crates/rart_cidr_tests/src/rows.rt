@@ -1,40 +1,96 @@
-//! Rows of calls on networks that are given as addresses and lengths, for tables of either version.
+//! Tests that play rows on tables of both versions.
 
-use std::process::Abort;
+use crate::player::{are_swept, assert_none_wrong, is_made_quietly};
+use crate::{each_call, edits, nested, reads, removals, walks};
+use rart_cidr::{CidrTable4, CidrTable6};
 
-/// A call, with addresses of type `A`.
-#[derive(Clone, Copy)]
-pub enum Ask<A> {
-    Insert(A, u8, u64),
-    Remove(A, u8),
-    Get(A, u8),
-    /// The length and the target of the route with the longest network that contains the address.
-    Route(A),
-    /// How many routes' networks contain the address.
-    Covering(A),
-    Len,
+#[test]
+fn networks_inside_one_another(rt: HostRuntime) {
+    assert_none_wrong(&rt, rt.alloc(), nested::FOUR, nested::SIX);
 }
 
-/// What it returns.
-#[derive(Clone, Copy, PartialEq, Eq)]
-pub enum Reply {
-    Value(Option<u64>),
-    Found(u8, u64),
-    Missed,
-    Count(usize),
-    BadLength,
-    HostBits,
-    Refused,
-    /// The law by lengths answers otherwise.
-    Differs,
+#[test]
+fn default_route_and_host_routes(rt: HostRuntime) {
+    assert_none_wrong(
+        &rt,
+        rt.alloc(),
+        removals::DEFAULT_AND_HOSTS_FOUR,
+        removals::DEFAULT_AND_HOSTS_SIX,
+    );
 }
 
-/// No target.
-pub const NEW: Reply = Reply::Value(None);
+#[test]
+fn networks_of_the_same_octets(rt: HostRuntime) {
+    assert_none_wrong(
+        &rt,
+        rt.alloc(),
+        removals::ONE_STRIDE_FOUR,
+        removals::ONE_STRIDE_SIX,
+    );
+}
 
-/// Fails with the number of the row that was answered otherwise, if one was.
-pub fn assert_none_wrong(rt: &impl Abort, differs: Option<usize>) {
-    if let Some(at) = differs {
-        assert!(rt; false, "row {at} differs");
-    }
+#[test]
+fn each_call_on_networks_given_as_texts(rt: HostRuntime) {
+    assert_none_wrong(&rt, rt.alloc(), each_call::FOUR, each_call::SIX);
+}
+
+#[test]
+fn all_routes_and_those_inside_networks_in_order(rt: HostRuntime) {
+    assert_none_wrong(&rt, rt.alloc(), walks::FOUR, walks::SIX);
+}
+
+#[test]
+fn routes_of_several_strides(rt: HostRuntime) {
+    let alloc = rt.alloc();
+    assert_none_wrong(&rt, alloc, edits::STRIDES_FOUR, edits::STRIDES_SIX);
+    assert_none_wrong(
+        &rt,
+        alloc,
+        edits::FIVE_STRIDES_FOUR,
+        edits::FIVE_STRIDES_SIX,
+    );
+}
+
+#[test]
+fn a_longest_match_reads_each_stride_on_its_way_once(rt: HostRuntime) {
+    assert_none_wrong(&rt, rt.alloc(), reads::FOUR, reads::SIX);
+}
+
+#[test]
+fn look_ups_and_loans_of_networks_make_no_request(rt: HostRuntime) {
+    let alloc = rt.alloc();
+    assert!(rt; is_made_quietly::<CidrTable4<u64>>(alloc));
+    assert!(rt; is_made_quietly::<CidrTable6<u64>>(alloc));
+    assert_none_wrong(
+        &rt,
+        alloc,
+        each_call::LOOK_UPS_FOUR,
+        each_call::LOOK_UPS_SIX,
+    );
+    assert_none_wrong(&rt, alloc, nested::FOUR, nested::SIX);
+    assert_none_wrong(&rt, alloc, each_call::FOUR, each_call::SIX);
+    assert_none_wrong(&rt, alloc, reads::FOUR, reads::SIX);
+}
+
+#[test]
+fn edits_of_networks_refused_in_turn_change_nothing(rt: HostRuntime) {
+    let alloc = rt.alloc();
+    assert!(rt; are_swept(alloc, nested::FOUR, nested::SIX));
+    assert!(rt;
+        are_swept(
+            alloc,
+            removals::DEFAULT_AND_HOSTS_FOUR,
+            removals::DEFAULT_AND_HOSTS_SIX
+        )
+    );
+    assert!(rt; are_swept(alloc, removals::ONE_STRIDE_FOUR, removals::ONE_STRIDE_SIX));
+    assert!(rt; are_swept(alloc, each_call::FOUR, each_call::SIX));
+    assert!(rt; are_swept(alloc, edits::STRIDES_FOUR, edits::STRIDES_SIX));
+    assert!(rt; are_swept(alloc, edits::FIVE_STRIDES_FOUR, edits::FIVE_STRIDES_SIX));
+    assert!(rt; are_swept(alloc, reads::FOUR, reads::SIX));
+}
+
+#[test]
+fn a_walk_of_networks_refused_in_turn_gives_none(rt: HostRuntime) {
+    assert!(rt; are_swept(rt.alloc(), walks::FOUR, walks::SIX));
 }

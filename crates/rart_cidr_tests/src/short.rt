@@ -18,23 +18,23 @@ fn first_octet(byte: u8) -> u128 {
 }
 
 // Whether an empty table, with this route alone, answers as its model about all first octets.
-fn is_alone<T: Table>(table: &mut T, net: Network) -> bool {
+fn is_alone<T: Table>(table: &mut T, given: &mut Vec<Route>, net: Network) -> bool {
     let routes: [Route; 1] = [(net, 7)];
-    let mut is_right = table.put(net, 7) == Some(None) && table.count() == 1;
+    let mut is_right = matches!(table.put(net, 7), Ok(None)) && table.count() == (1, false);
     for byte in 0..=255_u8 {
-        is_right = is_right && is_alike(table, &routes, first_octet(byte));
+        is_right = is_right && is_alike(table, given, &routes, first_octet(byte));
     }
-    is_right && matches!(table.take(net), Ok(Some(7))) && table.count() == 0
+    is_right && matches!(table.take(net), Ok(Some(7))) && table.count() == (0, true)
 }
 
 // How many networks were tried, until one was answered wrong.
-fn count_alone<T: Table>(table: &mut T) -> usize {
+fn count_alone_on<T: Table>(table: &mut T, given: &mut Vec<Route>) -> usize {
     let mut count = 0_usize;
     let mut is_right = true;
     for len in 0..9_u8 {
         for byte in 0..=255_u8 {
             if let Some(net) = short(byte, len) {
-                is_right = is_right && is_alone(table, net);
+                is_right = is_right && is_alone(table, given, net);
                 if is_right {
                     count = count.wrapping_add(1);
                 }
@@ -53,7 +53,7 @@ fn are_put<T: Table>(table: &mut T, routes: &mut Vec<Route>) -> bool {
                 let target = routes.len() as u64;
                 is_right = is_right
                     && put(routes, net, target) == Some(None)
-                    && table.put(net, target) == Some(None);
+                    && matches!(table.put(net, target), Ok(None));
             }
         }
     }
@@ -61,12 +61,12 @@ fn are_put<T: Table>(table: &mut T, routes: &mut Vec<Route>) -> bool {
 }
 
 // Whether the walk of the routes inside each short network gives them in order.
-fn are_walked<T: Table>(table: &T, routes: &[Route]) -> bool {
+fn are_walked<T: Table>(table: &T, given: &mut Vec<Route>, routes: &[Route]) -> bool {
     let mut is_right = true;
     for len in 0..9_u8 {
         for byte in 0..=255_u8 {
             if let Some(net) = short(byte, len) {
-                is_right = is_right && is_walked(table, routes, Group::Inside(net));
+                is_right = is_right && is_walked(table, given, routes, Group::Inside(net));
             }
         }
     }
@@ -74,61 +74,63 @@ fn are_walked<T: Table>(table: &T, routes: &[Route]) -> bool {
 }
 
 // Whether a route is removed, after which table and model answer alike.
-fn is_taken<T: Table>(table: &mut T, routes: &[Route], route: Route) -> bool {
+fn is_taken<T: Table>(
+    table: &mut T,
+    given: &mut Vec<Route>,
+    routes: &[Route],
+    route: Route,
+) -> bool {
     let (net, target) = route;
     matches!(table.take(net), Ok(Some(was)) if was == target)
-        && table.target(net).is_none()
-        && table.count() == routes.len()
-        && is_alike(table, routes, first_octet((target % 256) as u8))
+        && table.target(net) == (None, false)
+        && table.count() == (routes.len(), routes.is_empty())
+        && is_alike(table, given, routes, first_octet((target % 256) as u8))
 }
 
-fn are_taken<T: Table>(table: &mut T, routes: &mut Vec<Route>) -> bool {
+fn are_taken<T: Table>(table: &mut T, given: &mut Vec<Route>, routes: &mut Vec<Route>) -> bool {
     let mut is_right = true;
     for _ in 0..511_usize {
         match routes.pop() {
-            Some(route) => is_right = is_right && is_taken(table, routes.as_slice(), route),
+            Some(route) => is_right = is_right && is_taken(table, given, routes.as_slice(), route),
             None => is_right = false,
         }
     }
     is_right
 }
 
-fn are_together<T: Table>(table: &mut T, alloc: Global) -> bool {
+// Whether table and model answer alike with all of them.
+fn are_together_on<T: Table>(
+    table: &mut T,
+    given: &mut Vec<Route>,
+    routes: &mut Vec<Route>,
+) -> bool {
+    are_put(table, routes)
+        && are_walked(table, given, routes.as_slice())
+        && are_taken(table, given, routes)
+        && table.count() == (0, true)
+}
+
+fn count_alone<T: Table>(alloc: Global) -> usize {
+    let mut table = T::empty(alloc);
+    let mut given: Vec<Route> = Vec::new(alloc);
+    count_alone_on(&mut table, &mut given)
+}
+
+fn are_together<T: Table>(alloc: Global) -> bool {
+    let mut table = T::empty(alloc);
+    let mut given: Vec<Route> = Vec::new(alloc);
     let mut routes: Vec<Route> = Vec::new(alloc);
-    are_put(table, &mut routes)
-        && are_walked(table, routes.as_slice())
-        && are_taken(table, &mut routes)
-        && table.count() == 0
-}
-
-fn count_alone4(alloc: Global) -> usize {
-    let mut table: CidrTable4<u64> = CidrTable4::new(alloc);
-    count_alone(&mut table)
-}
-
-fn count_alone6(alloc: Global) -> usize {
-    let mut table: CidrTable6<u64> = CidrTable6::new(alloc);
-    count_alone(&mut table)
-}
-
-fn are_together4(alloc: Global) -> bool {
-    let mut table: CidrTable4<u64> = CidrTable4::new(alloc);
-    are_together(&mut table, alloc)
-}
-
-fn are_together6(alloc: Global) -> bool {
-    let mut table: CidrTable6<u64> = CidrTable6::new(alloc);
-    are_together(&mut table, alloc)
+    are_together_on(&mut table, &mut given, &mut routes)
 }
 
 #[test]
 fn each_short_network_alone(rt: HostRuntime) {
-    assert_eq!(rt; count_alone4(rt.alloc()), 511);
-    assert_eq!(rt; count_alone6(rt.alloc()), 511);
+    assert_eq!(rt; count_alone::<CidrTable4<u64>>(rt.alloc()), 511);
+    assert_eq!(rt; count_alone::<CidrTable6<u64>>(rt.alloc()), 511);
 }
 
 #[test]
 fn all_short_networks_together(rt: HostRuntime) {
-    assert!(rt; are_together4(rt.alloc()));
-    assert!(rt; are_together6(rt.alloc()));
+    assert!(rt; are_together::<CidrTable4<u64>>(rt.alloc()));
+    assert!(rt; are_together::<CidrTable6<u64>>(rt.alloc()));
 }
