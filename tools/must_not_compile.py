@@ -391,6 +391,38 @@ MISUSES = [
         """,
         ("E0277",),
     ),
+    Misuse(
+        "in Rust, a longest match is kept over an insertion",
+        """
+        let mut table = rart_proved::NetTable4::new();
+        let any = std::net::Ipv4Addr::UNSPECIFIED;
+        table.insert(any, 0, String::from("default"));
+        let found = table.longest_match(any);
+        table.insert(any, 8, String::from("zero"));
+        assert!(found.is_some());
+        """,
+        ("E0502",),
+    ),
+    Misuse(
+        "in Rust, a table lends a value twice to be changed",
+        """
+        let mut table = rart_proved::NetTable6::new();
+        let any = std::net::Ipv6Addr::UNSPECIFIED;
+        table.insert(any, 0, 1);
+        table.insert(any, 8, 2);
+        let (first, second) = (table.get_mut(any, 0), table.get_mut(any, 8));
+        assert_ne!(first, second);
+        """,
+        ("E0499",),
+    ),
+    Misuse(
+        "in Rust, a table goes to another thread",
+        """
+        let table = rart_proved::NetTable4::<u64>::new();
+        std::thread::spawn(move || table.len()).join().unwrap();
+        """,
+        ("E0277",),
+    ),
 ]
 
 MANIFEST = """[package]

@@ -1,15 +1,17 @@
 /* The proved map for C. Written by bindings/generate from crates/rart_c/src: change that, and run it again.
  *
- * A map is a struct of one pointer. Zeroed, as by `rart32 map = {0};`, it is empty. Free it by `rart32_free`.
+ * A map is a struct of one pointer. Zeroed, as by `rart32 map = {0};`, it is empty. Free it by `rart32_free`. A table of
+ * networks is such a struct too, freed by `rart_net4_free`. An address is its bytes in network order.
  *
  * What a function does on each status is proved for every call that keeps these rules:
- * - A pointer to a key, a probe or a buffer is valid for its length; no two of a call's pointers overlap if one of them
- *   is written.
- * - A map is zeroed or as the last call left it, and was not copied. It is used by one call at a time, on one thread, and
- *   not from a signal handler.
+ * - A pointer to a key, a probe or a buffer is valid for its length, one to an address for 4 bytes or for 16; no two
+ *   pointers of a call overlap if one of them is written.
+ * - A map or a table is zeroed or as the last call left it, and was not copied. It is used by one call at a time, on
+ *   one thread, and not from a signal handler.
  *
- * `Proved:` quotes the contract. `x.old` is what x points to before the call, `x.new` after it, `x.now` if it isn't
- * written; `map.old.held.tree.pairs` are the pairs, ascending by key.
+ * `Proved:` quotes the contract; its words are defined in crates/rart_c/specs. `x.old` is what x points to before the
+ * call, `x.new` after it, `x.now` if it isn't written; `map.old.held.tree.pairs` are the pairs, ascending by key, and
+ * `table.old.held.table` the routes, ascending by the bits of their networks.
  */
 #ifndef RART_H
 #define RART_H
@@ -60,6 +62,12 @@ extern "C" {
 /* A key is below the one before it, at the place that was written. The map has not changed. */
 #define RART_UNSORTED 6
 
+/* A network has more bits than its address. Nothing has changed. */
+#define RART_BAD_LENGTH 7
+
+/* A bit of the address after those of the network is set. Nothing has changed. */
+#define RART_HOST_BITS 8
+
 /* The nodes of a map, counted. */
 typedef struct rart_stats {
   /* Nodes without children. */
@@ -103,6 +111,20 @@ typedef struct rart128_pair {
 typedef struct rart128 {
   void *at;
 } rart128;
+
+/* A table from IPv4 networks to `u64` targets. Zeroed, it is an empty table. A call takes it by its address and is the
+ * only one that uses it; a copy of it must not be used once either is passed to a call.
+ */
+typedef struct rart_net4 {
+  void *at;
+} rart_net4;
+
+/* A table from IPv6 networks to `u64` targets. Zeroed, it is an empty table. A call takes it by its address and is the
+ * only one that uses it; a copy of it must not be used once either is passed to a call.
+ */
+typedef struct rart_net6 {
+  void *at;
+} rart_net6;
 
 /* Inserts `value` at a key and writes the value that it replaces to `old`.
  *
@@ -381,6 +403,94 @@ uint8_t rart128_load_sorted(rart128 *map, const rart128_pair *pairs, size_t pair
  * Proved: map.new.held ≡ map.old.held
  */
 uint8_t rart128_stats(rart128 *map, rart_stats *stats);
+
+/* Inserts a route from the network of the first `len` bits of an address to `target`, and writes the target that it
+ * replaces to `old`.
+ *
+ * Proved: InsertsNet (bits_of addr.now) len target table.old.held.table table.new.held.table old.old old.new
+ *   (status_of result)
+ */
+uint8_t rart_net4_insert(rart_net4 *table, const uint8_t addr[4], uint8_t len, uint64_t target,
+    uint64_t *old);
+
+/* Removes the route from a network and writes its target to `old`.
+ *
+ * Proved: RemovesNet (bits_of addr.now) len table.old.held.table table.new.held.table old.old old.new (status_of
+ *   result)
+ */
+uint8_t rart_net4_remove(rart_net4 *table, const uint8_t addr[4], uint8_t len, uint64_t *old);
+
+/* Frees the table. The handle is then null, an empty table that owns no memory; to free it again does nothing.
+ *
+ * Proved: table.new.held ≡ empty_table
+ */
+void rart_net4_free(rart_net4 *table);
+
+/* Writes the target of exactly one network.
+ *
+ * Proved: FindsNet (bits_of addr.now) len table.old.held.table target.old target.new (status_of result)
+ * Proved: table.new.held ≡ table.old.held
+ */
+uint8_t rart_net4_get(rart_net4 *table, const uint8_t addr[4], uint8_t len, uint64_t *target);
+
+/* Writes the length and the target of the longest network that contains an address, and returns whether there is one.
+ *
+ * Proved: FindsLongestNet (bits_of addr.now) table.old.held.table (len.old, target.old) (len.new, target.new) result
+ * Proved: table.new.held ≡ table.old.held
+ */
+bool rart_net4_longest_match(rart_net4 *table, const uint8_t addr[4], uint8_t *len,
+    uint64_t *target);
+
+/* Returns the number of routes.
+ *
+ * Proved: result ≡ length table.old.held.table
+ * Proved: table.new.held ≡ table.old.held
+ */
+size_t rart_net4_len(rart_net4 *table);
+
+/* Inserts a route from the network of the first `len` bits of an address to `target`, and writes the target that it
+ * replaces to `old`.
+ *
+ * Proved: InsertsNet (bits_of addr.now) len target table.old.held.table table.new.held.table old.old old.new
+ *   (status_of result)
+ */
+uint8_t rart_net6_insert(rart_net6 *table, const uint8_t addr[16], uint8_t len, uint64_t target,
+    uint64_t *old);
+
+/* Removes the route from a network and writes its target to `old`.
+ *
+ * Proved: RemovesNet (bits_of addr.now) len table.old.held.table table.new.held.table old.old old.new (status_of
+ *   result)
+ */
+uint8_t rart_net6_remove(rart_net6 *table, const uint8_t addr[16], uint8_t len, uint64_t *old);
+
+/* Frees the table. The handle is then null, an empty table that owns no memory; to free it again does nothing.
+ *
+ * Proved: table.new.held ≡ empty_table
+ */
+void rart_net6_free(rart_net6 *table);
+
+/* Writes the target of exactly one network.
+ *
+ * Proved: FindsNet (bits_of addr.now) len table.old.held.table target.old target.new (status_of result)
+ * Proved: table.new.held ≡ table.old.held
+ */
+uint8_t rart_net6_get(rart_net6 *table, const uint8_t addr[16], uint8_t len, uint64_t *target);
+
+/* Writes the length and the target of the longest network that contains an address, and returns whether there is one.
+ *
+ * Proved: FindsLongestNet (bits_of addr.now) table.old.held.table (len.old, target.old) (len.new, target.new) result
+ * Proved: table.new.held ≡ table.old.held
+ */
+bool rart_net6_longest_match(rart_net6 *table, const uint8_t addr[16], uint8_t *len,
+    uint64_t *target);
+
+/* Returns the number of routes.
+ *
+ * Proved: result ≡ length table.old.held.table
+ * Proved: table.new.held ≡ table.old.held
+ */
+size_t rart_net6_len(rart_net6 *table);
 
 #ifdef __cplusplus
 }

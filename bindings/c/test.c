@@ -1,4 +1,6 @@
-/* Calls each function of rart.h. It ends with 0, or stops at the first answer that is wrong. */
+/* Calls each function of rart.h. It ends with 0, or stops at the first answer that is wrong. The linker's option `--wrap`
+ * leads the library's calls of malloc, realloc and free to the functions below, which count blocks and refuse requests.
+ */
 #include "rart.h"
 
 #include <stdio.h>
@@ -19,6 +21,40 @@ _Static_assert(sizeof(rart32) == sizeof(void *), "a map is one pointer");
 _Static_assert(sizeof(rart32_pair) == 48, "a pair has no padding");
 _Static_assert(sizeof(rart128) == sizeof(void *), "a map is one pointer");
 _Static_assert(sizeof(rart128_pair) == 144, "a pair has no padding");
+_Static_assert(sizeof(rart_net4) == sizeof(void *), "a table is one pointer");
+_Static_assert(sizeof(rart_net6) == sizeof(void *), "a table is one pointer");
+
+/* How many requests for memory succeed before the others are refused. */
+static size_t granted = SIZE_MAX;
+
+/* Blocks that were requested and not yet freed. */
+static size_t blocks = 0;
+
+void *__real_malloc(size_t size);
+void *__real_realloc(void *block, size_t size);
+void __real_free(void *block);
+void *__wrap_malloc(size_t size);
+void *__wrap_realloc(void *block, size_t size);
+void __wrap_free(void *block);
+
+static bool is_granted(void) {
+  if (granted == 0) return false;
+  granted -= granted != SIZE_MAX;
+  return true;
+}
+
+void *__wrap_malloc(size_t size) {
+  void *block = is_granted() ? __real_malloc(size) : NULL;
+  blocks += block != NULL;
+  return block;
+}
+
+void *__wrap_realloc(void *block, size_t size) { return is_granted() ? __real_realloc(block, size) : NULL; }
+
+void __wrap_free(void *block) {
+  blocks -= block != NULL;
+  __real_free(block);
+}
 
 static bool has_pair(const rart32_pair *pair, const char *key, uint64_t value) {
   return pair->len == strlen(key) && memcmp(pair->key, key, pair->len) == 0 && pair->value == value;
@@ -175,6 +211,45 @@ static void test_wide(void) {
   rart128_free(&map);
 }
 
+static void test_networks(void) {
+  rart_net4 table = {0};
+  const uint8_t ten[4] = {10, 0, 0, 0}, office[4] = {10, 16, 0, 0}, host[4] = {10, 16, 2, 3}, other[4] = {11, 0, 0, 1};
+  uint64_t target = 77;
+  uint8_t len = 77;
+  CHECK(rart_net4_len(&table) == 0 && !rart_net4_longest_match(&table, host, &len, &target) && len == 77);
+  CHECK(rart_net4_insert(&table, ten, 8, 1, &target) == RART_DONE && target == 77);
+  CHECK(rart_net4_insert(&table, office, 12, 2, &target) == RART_DONE);
+  CHECK(rart_net4_insert(&table, office, 12, 3, &target) == RART_REPLACED && target == 2);
+  CHECK(rart_net4_insert(&table, host, 12, 4, &target) == RART_HOST_BITS);
+  CHECK(rart_net4_insert(&table, host, 33, 4, &target) == RART_BAD_LENGTH && target == 2);
+  CHECK(rart_net4_longest_match(&table, host, &len, &target) && len == 12 && target == 3);
+  CHECK(!rart_net4_longest_match(&table, other, &len, &target) && len == 12);
+  CHECK(rart_net4_get(&table, ten, 8, &target) == RART_DONE && target == 1);
+  CHECK(rart_net4_get(&table, ten, 9, &target) == RART_ABSENT && target == 1);
+  CHECK(rart_net4_remove(&table, office, 12, &target) == RART_DONE && target == 3);
+  CHECK(rart_net4_remove(&table, office, 12, &target) == RART_ABSENT);
+  CHECK(rart_net4_longest_match(&table, host, &len, &target) && len == 8 && target == 1);
+  rart_net4_free(&table);
+  rart_net4_free(&table);
+  CHECK(rart_net4_len(&table) == 0);
+}
+
+static void test_wide_networks(void) {
+  rart_net6 table = {0};
+  const uint8_t doc[16] = {0x20, 1, 0x0d, 0xb8}, host[16] = {0x20, 1, 0x0d, 0xb8, [15] = 1};
+  uint64_t target = 77;
+  uint8_t len = 77;
+  CHECK(rart_net6_insert(&table, doc, 32, 1, &target) == RART_DONE);
+  CHECK(rart_net6_insert(&table, host, 128, 2, &target) == RART_DONE);
+  CHECK(rart_net6_insert(&table, host, 64, 3, &target) == RART_HOST_BITS);
+  CHECK(rart_net6_insert(&table, host, 129, 3, &target) == RART_BAD_LENGTH && target == 77);
+  CHECK(rart_net6_longest_match(&table, host, &len, &target) && len == 128 && target == 2);
+  CHECK(rart_net6_remove(&table, host, 128, &target) == RART_DONE && target == 2);
+  CHECK(rart_net6_longest_match(&table, host, &len, &target) && len == 32 && target == 1);
+  CHECK(rart_net6_get(&table, doc, 32, &target) == RART_DONE && rart_net6_len(&table) == 1);
+  rart_net6_free(&table);
+}
+
 /* Many keys, so that each kind of node is made and freed. */
 static void test_many(void) {
   rart32 map = {0};
@@ -195,6 +270,64 @@ static void test_many(void) {
   rart32_free(&map);
 }
 
+/* Inserts and removes pairs and networks with a number of requests for memory, and returns whether one was refused. A
+ * call that lacks memory changes nothing and succeeds later.
+ */
+static bool lacks_memory(size_t requests) {
+  rart32 map = {0};
+  rart_net6 table = {0};
+  bool lacks = false;
+  granted = requests;
+  for (unsigned i = 0; i < 2 * 120; i++) {
+    const uint8_t high = (uint8_t)(i % 120 / 16), low = (uint8_t)(i % 120 % 16), key[2] = {high, low};
+    const uint8_t addr[16] = {0x20, high, (uint8_t)(low << 4)}, len = 20 + low % 2 * 100;
+    const bool is_first = i < 120;
+    const size_t pairs = rart32_len(&map), routes = rart_net6_len(&table);
+    uint64_t old = 777, target = 777;
+    uint8_t status = is_first ? rart32_insert(&map, key, 2, i, &old) : rart32_remove(&map, key, 2, &old);
+    uint8_t answer = is_first ? rart_net6_insert(&table, addr, len, i, &target)
+                              : rart_net6_remove(&table, addr, len, &target);
+    if (status == RART_NO_MEMORY || answer == RART_NO_MEMORY) {
+      lacks = true;
+      CHECK(status != RART_NO_MEMORY || (rart32_len(&map) == pairs && old == 777));
+      CHECK(answer != RART_NO_MEMORY || (rart_net6_len(&table) == routes && target == 777));
+      granted = SIZE_MAX;
+      if (status == RART_NO_MEMORY)
+        status = is_first ? rart32_insert(&map, key, 2, i, &old) : rart32_remove(&map, key, 2, &old);
+      if (answer == RART_NO_MEMORY)
+        answer = is_first ? rart_net6_insert(&table, addr, len, i, &target)
+                          : rart_net6_remove(&table, addr, len, &target);
+    }
+    CHECK(status == RART_DONE && old == (is_first ? 777 : i - 120));
+    CHECK(answer == RART_DONE && target == (is_first ? 777 : i - 120));
+  }
+  granted = SIZE_MAX;
+  CHECK(rart32_len(&map) == 0 && rart_net6_len(&table) == 0);
+  rart32_free(&map);
+  rart_net6_free(&table);
+  CHECK(blocks == 0);
+  return lacks;
+}
+
+/* Calls that fail for want of memory. */
+static void test_refusals(void) {
+  size_t requests = 0;
+  while (lacks_memory(requests)) requests++;
+  CHECK(requests > 50);
+  rart32 map = three_words();
+  rart32_pair pair = {.key = "x", .len = 1, .value = 4}, out;
+  rart_stats stats = {.leaves = 77};
+  size_t number = 77;
+  bool more = true;
+  granted = 0;
+  CHECK(rart32_range(&map, RART_UNBOUNDED, NULL, 0, RART_UNBOUNDED, NULL, 0, &out, 1, &number, &more) == RART_NO_MEMORY);
+  CHECK(rart32_load_sorted(&map, &pair, 1, &number) == RART_NO_MEMORY && number == 77 && more);
+  CHECK(rart32_stats(&map, &stats) == RART_NO_MEMORY && stats.leaves == 77);
+  granted = SIZE_MAX;
+  CHECK(rart32_len(&map) == 3);
+  rart32_free(&map);
+}
+
 int main(void) {
   test_empty();
   test_edits();
@@ -202,7 +335,11 @@ int main(void) {
   test_batches();
   test_loads();
   test_wide();
+  test_networks();
+  test_wide_networks();
   test_many();
+  test_refusals();
+  CHECK(blocks == 0);
   puts("c: passed");
   return 0;
 }

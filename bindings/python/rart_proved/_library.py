@@ -28,12 +28,19 @@ def _load():
 LIBRARY = _load()
 
 
-def check(status, width):
-    """Returns a status of success; raises what another one stands for."""
+def check_value(value):
+    """Returns a value that the library can hold; raises OverflowError at another."""
+    if not 0 <= value < 1 << 64:
+        raise OverflowError("a value is an integer below 2**64")
+    return value
+
+
+def check(status, width=None):
+    """Returns a status of success; raises what another one stands for. Keys have at most `width` bytes."""
     if status == _sys.NO_MEMORY:
         raise MemoryError("out of memory")
     if status == _sys.FULL:
-        raise OverflowError("the map is full")
+        raise OverflowError("the map or the table is full")
     if status == _sys.KEY_TOO_LONG:
         raise ValueError(f"a key has at most {width} bytes")
     return status

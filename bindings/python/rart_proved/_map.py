@@ -4,7 +4,7 @@ import collections.abc
 import ctypes
 
 from . import _sys
-from ._library import LIBRARY, check
+from ._library import LIBRARY, check, check_value
 
 _FIRST, _ROOM = 8, 64
 
@@ -58,8 +58,7 @@ class RartMap(collections.abc.MutableMapping):
 
     def __setitem__(self, key, value):
         key, old = _bytes(key), ctypes.c_uint64()
-        if not 0 <= value < 1 << 64:
-            raise OverflowError("a value is an integer below 2**64")
+        check_value(value)
         if check(self._call["insert"](self._at, key, len(key), value, old), self._width) == _sys.DONE:
             self._edits += 1
 
@@ -95,10 +94,8 @@ class RartMap(collections.abc.MutableMapping):
         pairs = [(_bytes(key), value) for key, value in pairs]
         buffer, at = (self._pair * len(pairs))(), ctypes.c_size_t()
         for to, (key, value) in zip(buffer, pairs):
-            if not 0 <= value < 1 << 64:
-                raise OverflowError("a value is an integer below 2**64")
             ctypes.memmove(to.key, key, min(len(key), self._width))
-            to.len, to.value = len(key), value
+            to.len, to.value = len(key), check_value(value)
         status = check(self._call["load_sorted"](self._at, buffer, len(pairs), at), self._width)
         if status == _sys.UNSORTED:
             raise ValueError(f"the key of pair {at.value} is below the one before it")

@@ -17,6 +17,8 @@ FULL = 3
 KEY_TOO_LONG = 4
 BAD_BOUND = 5
 UNSORTED = 6
+BAD_LENGTH = 7
+HOST_BITS = 8
 
 
 class RartStats(ctypes.Structure):
@@ -43,8 +45,8 @@ class Rart32Pair(ctypes.Structure):
 
 
 class Rart32(ctypes.Structure):
-    """A map from keys of at most 32 bytes to `u64`. Zeroed, it is an empty map. A call takes it by its address and is the
-    only one that uses it; a copy of it must not be used once either is passed to a call.
+    """A map from keys of at most 32 bytes to `u64`. Zeroed, it is an empty map. A call takes it by its address and is
+    the only one that uses it; a copy of it must not be used once either is passed to a call.
     """
 
     _fields_ = [
@@ -63,8 +65,28 @@ class Rart128Pair(ctypes.Structure):
 
 
 class Rart128(ctypes.Structure):
-    """A map from keys of at most 128 bytes to `u64`. Zeroed, it is an empty map. A call takes it by its address and is the
-    only one that uses it; a copy of it must not be used once either is passed to a call.
+    """A map from keys of at most 128 bytes to `u64`. Zeroed, it is an empty map. A call takes it by its address and is
+    the only one that uses it; a copy of it must not be used once either is passed to a call.
+    """
+
+    _fields_ = [
+        ("at", ctypes.c_void_p),
+    ]
+
+
+class RartNet4(ctypes.Structure):
+    """A table from IPv4 networks to `u64` targets. Zeroed, it is an empty table. A call takes it by its address and is
+    the only one that uses it; a copy of it must not be used once either is passed to a call.
+    """
+
+    _fields_ = [
+        ("at", ctypes.c_void_p),
+    ]
+
+
+class RartNet6(ctypes.Structure):
+    """A table from IPv6 networks to `u64` targets. Zeroed, it is an empty table. A call takes it by its address and is
+    the only one that uses it; a copy of it must not be used once either is passed to a call.
     """
 
     _fields_ = [
@@ -335,4 +357,90 @@ CALLS = [
         ],
     ),
     ("rart128_stats", ctypes.c_uint8, [ctypes.POINTER(Rart128), ctypes.POINTER(RartStats)]),
+    (
+        "rart_net4_insert",
+        ctypes.c_uint8,
+        [
+            ctypes.POINTER(RartNet4),
+            ctypes.c_char_p,
+            ctypes.c_uint8,
+            ctypes.c_uint64,
+            ctypes.POINTER(ctypes.c_uint64),
+        ],
+    ),
+    (
+        "rart_net4_remove",
+        ctypes.c_uint8,
+        [
+            ctypes.POINTER(RartNet4),
+            ctypes.c_char_p,
+            ctypes.c_uint8,
+            ctypes.POINTER(ctypes.c_uint64),
+        ],
+    ),
+    ("rart_net4_free", None, [ctypes.POINTER(RartNet4)]),
+    (
+        "rart_net4_get",
+        ctypes.c_uint8,
+        [
+            ctypes.POINTER(RartNet4),
+            ctypes.c_char_p,
+            ctypes.c_uint8,
+            ctypes.POINTER(ctypes.c_uint64),
+        ],
+    ),
+    (
+        "rart_net4_longest_match",
+        ctypes.c_bool,
+        [
+            ctypes.POINTER(RartNet4),
+            ctypes.c_char_p,
+            ctypes.POINTER(ctypes.c_uint8),
+            ctypes.POINTER(ctypes.c_uint64),
+        ],
+    ),
+    ("rart_net4_len", ctypes.c_size_t, [ctypes.POINTER(RartNet4)]),
+    (
+        "rart_net6_insert",
+        ctypes.c_uint8,
+        [
+            ctypes.POINTER(RartNet6),
+            ctypes.c_char_p,
+            ctypes.c_uint8,
+            ctypes.c_uint64,
+            ctypes.POINTER(ctypes.c_uint64),
+        ],
+    ),
+    (
+        "rart_net6_remove",
+        ctypes.c_uint8,
+        [
+            ctypes.POINTER(RartNet6),
+            ctypes.c_char_p,
+            ctypes.c_uint8,
+            ctypes.POINTER(ctypes.c_uint64),
+        ],
+    ),
+    ("rart_net6_free", None, [ctypes.POINTER(RartNet6)]),
+    (
+        "rart_net6_get",
+        ctypes.c_uint8,
+        [
+            ctypes.POINTER(RartNet6),
+            ctypes.c_char_p,
+            ctypes.c_uint8,
+            ctypes.POINTER(ctypes.c_uint64),
+        ],
+    ),
+    (
+        "rart_net6_longest_match",
+        ctypes.c_bool,
+        [
+            ctypes.POINTER(RartNet6),
+            ctypes.c_char_p,
+            ctypes.POINTER(ctypes.c_uint8),
+            ctypes.POINTER(ctypes.c_uint64),
+        ],
+    ),
+    ("rart_net6_len", ctypes.c_size_t, [ctypes.POINTER(RartNet6)]),
 ]

@@ -26,6 +26,33 @@ impl fmt::Display for Error {
 
 impl std::error::Error for Error {}
 
+/// Why an edit of a table of networks failed. The table is then unchanged.
+#[derive(Clone, Copy, Debug, PartialEq, Eq, Hash)]
+#[non_exhaustive]
+pub enum NetError {
+    /// An allocation failed.
+    Memory,
+    /// The table holds as many networks as it can count.
+    Full,
+    /// The network has more bits than an address.
+    Length,
+    /// A bit of the address after those of the network is set.
+    HostBits,
+}
+
+impl fmt::Display for NetError {
+    fn fmt(&self, f: &mut fmt::Formatter<'_>) -> fmt::Result {
+        f.write_str(match self {
+            NetError::Memory => "out of memory",
+            NetError::Full => "the table is full",
+            NetError::Length => "the network has more bits than its address",
+            NetError::HostBits => "a bit of the address after those of the network is set",
+        })
+    }
+}
+
+impl std::error::Error for NetError {}
+
 /// Why a load of sorted pairs made no map.
 #[derive(Clone, Copy, Debug, PartialEq, Eq, Hash)]
 #[non_exhaustive]
@@ -76,5 +103,15 @@ pub(crate) fn error_of(status: u8) -> Error {
         crate::sys::FULL => Error::Full,
         crate::sys::KEY_TOO_LONG => Error::KeyTooLong,
         _ => unreachable!("the library returned the status {status}"),
+    }
+}
+
+/// Returns the error of a table's status that is none of success.
+pub(crate) fn net_error_of(status: u8) -> NetError {
+    match status {
+        crate::sys::BAD_LENGTH => NetError::Length,
+        crate::sys::HOST_BITS => NetError::HostBits,
+        _ if error_of(status) == Error::Memory => NetError::Memory,
+        _ => NetError::Full,
     }
 }

@@ -66,12 +66,13 @@ pub struct Iter<'a, W: Width> {
     end: End<W>,
     is_over: bool,
     front: Batch<W>,
-    back: Batch<W>,
+    // made where the iterator goes from the back, so that it takes half the bytes where it doesn't
+    back: Option<Box<Batch<W>>>,
 }
 
 impl<'a, W: Width> Iter<'a, W> {
     pub(crate) fn new(map: &'a U64Map<W>, start: End<W>, end: End<W>) -> Iter<'a, W> {
-        Iter { map, start, end, is_over: false, front: Batch::new(), back: Batch::new() }
+        Iter { map, start, end, is_over: false, front: Batch::new(), back: None }
     }
 
     /// Reads the next batch from one end, which has returned all that it read.
@@ -79,7 +80,10 @@ impl<'a, W: Width> Iter<'a, W> {
         if self.is_over {
             return;
         }
-        let batch = if is_descending { &mut self.back } else { &mut self.front };
+        let batch = match is_descending {
+            true => self.back.get_or_insert_with(|| Box::new(Batch::new())),
+            false => &mut self.front,
+        };
         let (written, more) = self.map.batch(&self.start, &self.end, is_descending, &mut batch.pairs[..batch.room]);
         (batch.next, batch.end) = (0, written);
         batch.room = ROOM;
@@ -93,6 +97,11 @@ impl<'a, W: Width> Iter<'a, W> {
             }
         }
     }
+
+    /// Returns the next pair that was read from the back.
+    fn pop_back(&mut self) -> Option<(Key<W>, u64)> {
+        self.back.as_mut()?.pop_front()
+    }
 }
 
 impl<W: Width> Iterator for Iter<'_, W> {
@@ -104,17 +113,17 @@ impl<W: Width> Iterator for Iter<'_, W> {
         }
         self.refill(false);
         // what the other end has read is all that is left
-        self.front.pop_front().or_else(|| self.back.pop_back())
+        self.front.pop_front().or_else(|| self.back.as_mut()?.pop_back())
     }
 }
 
 impl<W: Width> DoubleEndedIterator for Iter<'_, W> {
     fn next_back(&mut self) -> Option<(Key<W>, u64)> {
-        if let Some(pair) = self.back.pop_front() {
+        if let Some(pair) = self.pop_back() {
             return Some(pair);
         }
         self.refill(true);
-        self.back.pop_front().or_else(|| self.front.pop_back())
+        self.pop_back().or_else(|| self.front.pop_back())
     }
 }
 

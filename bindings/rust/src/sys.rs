@@ -43,6 +43,12 @@ pub const BAD_BOUND: u8 = 5;
 /// A key is below the one before it, at the place that was written. The map has not changed.
 pub const UNSORTED: u8 = 6;
 
+/// A network has more bits than its address. Nothing has changed.
+pub const BAD_LENGTH: u8 = 7;
+
+/// A bit of the address after those of the network is set. Nothing has changed.
+pub const HOST_BITS: u8 = 8;
+
 /// The nodes of a map, counted.
 #[repr(C)]
 #[derive(Clone, Copy)]
@@ -93,6 +99,20 @@ pub struct Rart128 {
     pub at: *mut c_void,
 }
 
+/// A table from IPv4 networks to `u64` targets. Zeroed, it is an empty table. A call takes it by its address and is the
+/// only one that uses it; a copy of it must not be used once either is passed to a call.
+#[repr(C)]
+pub struct RartNet4 {
+    pub at: *mut c_void,
+}
+
+/// A table from IPv6 networks to `u64` targets. Zeroed, it is an empty table. A call takes it by its address and is the
+/// only one that uses it; a copy of it must not be used once either is passed to a call.
+#[repr(C)]
+pub struct RartNet6 {
+    pub at: *mut c_void,
+}
+
 unsafe extern "C" {
     /// Inserts `value` at a key and writes the value that it replaces to `old`.
     pub fn rart32_insert(
@@ -132,8 +152,8 @@ unsafe extern "C" {
     /// Writes the value at a key, and returns whether the key is stored. The key may be of any length.
     pub fn rart32_get(map: *mut Rart32, key: *const u8, key_len: usize, value: *mut u64) -> bool;
 
-    /// Writes the length and the value of the longest key that begins `probe`, and returns whether there is one. The probe
-    /// may be of any length.
+    /// Writes the length and the value of the longest key that begins `probe`, and returns whether there is one. The
+    /// probe may be of any length.
     pub fn rart32_longest_prefix(
         map: *mut Rart32,
         probe: *const u8,
@@ -154,8 +174,8 @@ unsafe extern "C" {
     /// Writes the pair with the greatest key, and returns whether there is one.
     pub fn rart32_last(map: *mut Rart32, pair: *mut Rart32Pair) -> bool;
 
-    /// Writes the pairs within two bounds to `out`, ascending by key, as many as fit. Writes their number to `written`, and
-    /// whether pairs are left to `more`. A caller that wants those passes the last key as an excluded start.
+    /// Writes the pairs within two bounds to `out`, ascending by key, as many as fit. Writes their number to `written`,
+    /// and whether pairs are left to `more`. A caller that wants those passes the last key as an excluded start.
     pub fn rart32_range(
         map: *mut Rart32,
         start_kind: u8,
@@ -170,8 +190,9 @@ unsafe extern "C" {
         more: *mut bool,
     ) -> u8;
 
-    /// Writes the pairs within two bounds to `out`, descending by key, as many as fit. Writes their number to `written`,
-    /// and whether pairs are left to `more`. A caller that wants those passes the last key as an excluded end.
+    /// Writes the pairs within two bounds to `out`, descending by key, as many as fit. Writes their number to
+    /// `written`, and whether pairs are left to `more`. A caller that wants those passes the last key as an excluded
+    /// end.
     pub fn rart32_range_descending(
         map: *mut Rart32,
         start_kind: u8,
@@ -186,8 +207,8 @@ unsafe extern "C" {
         more: *mut bool,
     ) -> u8;
 
-    /// Writes the pairs whose key begins `probe` to `out`, the shortest key first, as many as fit. Writes their number to
-    /// `written`, and whether pairs are left to `more`.
+    /// Writes the pairs whose key begins `probe` to `out`, the shortest key first, as many as fit. Writes their number
+    /// to `written`, and whether pairs are left to `more`.
     pub fn rart32_matches(
         map: *mut Rart32,
         probe: *const u8,
@@ -198,8 +219,8 @@ unsafe extern "C" {
         more: *mut bool,
     ) -> u8;
 
-    /// Replaces all pairs of a map by those of a buffer, whose keys must ascend; of equal keys the last pair stays. Writes
-    /// the place of the first pair that is refused, if its key is too long or below the one before it, to `at`.
+    /// Replaces all pairs of a map by those of a buffer, whose keys must ascend; of equal keys the last pair stays.
+    /// Writes the place of the first pair that is refused, if its key is too long or below the one before it, to `at`.
     pub fn rart32_load_sorted(
         map: *mut Rart32,
         pairs: *const Rart32Pair,
@@ -248,8 +269,8 @@ unsafe extern "C" {
     /// Writes the value at a key, and returns whether the key is stored. The key may be of any length.
     pub fn rart128_get(map: *mut Rart128, key: *const u8, key_len: usize, value: *mut u64) -> bool;
 
-    /// Writes the length and the value of the longest key that begins `probe`, and returns whether there is one. The probe
-    /// may be of any length.
+    /// Writes the length and the value of the longest key that begins `probe`, and returns whether there is one. The
+    /// probe may be of any length.
     pub fn rart128_longest_prefix(
         map: *mut Rart128,
         probe: *const u8,
@@ -270,8 +291,8 @@ unsafe extern "C" {
     /// Writes the pair with the greatest key, and returns whether there is one.
     pub fn rart128_last(map: *mut Rart128, pair: *mut Rart128Pair) -> bool;
 
-    /// Writes the pairs within two bounds to `out`, ascending by key, as many as fit. Writes their number to `written`, and
-    /// whether pairs are left to `more`. A caller that wants those passes the last key as an excluded start.
+    /// Writes the pairs within two bounds to `out`, ascending by key, as many as fit. Writes their number to `written`,
+    /// and whether pairs are left to `more`. A caller that wants those passes the last key as an excluded start.
     pub fn rart128_range(
         map: *mut Rart128,
         start_kind: u8,
@@ -286,8 +307,9 @@ unsafe extern "C" {
         more: *mut bool,
     ) -> u8;
 
-    /// Writes the pairs within two bounds to `out`, descending by key, as many as fit. Writes their number to `written`,
-    /// and whether pairs are left to `more`. A caller that wants those passes the last key as an excluded end.
+    /// Writes the pairs within two bounds to `out`, descending by key, as many as fit. Writes their number to
+    /// `written`, and whether pairs are left to `more`. A caller that wants those passes the last key as an excluded
+    /// end.
     pub fn rart128_range_descending(
         map: *mut Rart128,
         start_kind: u8,
@@ -302,8 +324,8 @@ unsafe extern "C" {
         more: *mut bool,
     ) -> u8;
 
-    /// Writes the pairs whose key begins `probe` to `out`, the shortest key first, as many as fit. Writes their number to
-    /// `written`, and whether pairs are left to `more`.
+    /// Writes the pairs whose key begins `probe` to `out`, the shortest key first, as many as fit. Writes their number
+    /// to `written`, and whether pairs are left to `more`.
     pub fn rart128_matches(
         map: *mut Rart128,
         probe: *const u8,
@@ -314,8 +336,8 @@ unsafe extern "C" {
         more: *mut bool,
     ) -> u8;
 
-    /// Replaces all pairs of a map by those of a buffer, whose keys must ascend; of equal keys the last pair stays. Writes
-    /// the place of the first pair that is refused, if its key is too long or below the one before it, to `at`.
+    /// Replaces all pairs of a map by those of a buffer, whose keys must ascend; of equal keys the last pair stays.
+    /// Writes the place of the first pair that is refused, if its key is too long or below the one before it, to `at`.
     pub fn rart128_load_sorted(
         map: *mut Rart128,
         pairs: *const Rart128Pair,
@@ -325,4 +347,86 @@ unsafe extern "C" {
 
     /// Writes the statistics of a map; of an empty one, zeros.
     pub fn rart128_stats(map: *mut Rart128, stats: *mut RartStats) -> u8;
+
+    /// Inserts a route from the network of the first `len` bits of an address to `target`, and writes the target that
+    /// it replaces to `old`.
+    pub fn rart_net4_insert(
+        table: *mut RartNet4,
+        addr: *const [u8; 4],
+        len: u8,
+        target: u64,
+        old: *mut u64,
+    ) -> u8;
+
+    /// Removes the route from a network and writes its target to `old`.
+    pub fn rart_net4_remove(
+        table: *mut RartNet4,
+        addr: *const [u8; 4],
+        len: u8,
+        old: *mut u64,
+    ) -> u8;
+
+    /// Frees the table. The handle is then null, an empty table that owns no memory; to free it again does nothing.
+    pub fn rart_net4_free(table: *mut RartNet4);
+
+    /// Writes the target of exactly one network.
+    pub fn rart_net4_get(
+        table: *mut RartNet4,
+        addr: *const [u8; 4],
+        len: u8,
+        target: *mut u64,
+    ) -> u8;
+
+    /// Writes the length and the target of the longest network that contains an address, and returns whether there is
+    /// one.
+    pub fn rart_net4_longest_match(
+        table: *mut RartNet4,
+        addr: *const [u8; 4],
+        len: *mut u8,
+        target: *mut u64,
+    ) -> bool;
+
+    /// Returns the number of routes.
+    pub fn rart_net4_len(table: *mut RartNet4) -> usize;
+
+    /// Inserts a route from the network of the first `len` bits of an address to `target`, and writes the target that
+    /// it replaces to `old`.
+    pub fn rart_net6_insert(
+        table: *mut RartNet6,
+        addr: *const [u8; 16],
+        len: u8,
+        target: u64,
+        old: *mut u64,
+    ) -> u8;
+
+    /// Removes the route from a network and writes its target to `old`.
+    pub fn rart_net6_remove(
+        table: *mut RartNet6,
+        addr: *const [u8; 16],
+        len: u8,
+        old: *mut u64,
+    ) -> u8;
+
+    /// Frees the table. The handle is then null, an empty table that owns no memory; to free it again does nothing.
+    pub fn rart_net6_free(table: *mut RartNet6);
+
+    /// Writes the target of exactly one network.
+    pub fn rart_net6_get(
+        table: *mut RartNet6,
+        addr: *const [u8; 16],
+        len: u8,
+        target: *mut u64,
+    ) -> u8;
+
+    /// Writes the length and the target of the longest network that contains an address, and returns whether there is
+    /// one.
+    pub fn rart_net6_longest_match(
+        table: *mut RartNet6,
+        addr: *const [u8; 16],
+        len: *mut u8,
+        target: *mut u64,
+    ) -> bool;
+
+    /// Returns the number of routes.
+    pub fn rart_net6_len(table: *mut RartNet6) -> usize;
 }

@@ -1,6 +1,9 @@
 pub mod Batches
 pub mod Handles128
 pub mod Handles32
+pub mod HandlesNet4
+pub mod HandlesNet6
 pub mod Loads
+pub mod Networks
 pub mod ParkedBoxes
 pub mod Removals

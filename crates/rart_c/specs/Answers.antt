@@ -1,10 +1,12 @@
 -- What the calls on one key return and write, and the pairs afterwards. `was` is what the caller's variable held, `is`
 -- what it holds.
-use Rattle.std.specs.Prelude.{◌≡◌, ◌≢◌, ◌<◌, ◌≤◌, ℕ, zero, suc, Bool, true, false, List, length, take, Option, None}
+use Rattle.std.specs.Prelude.{◌≡◌, ◌≢◌, ◌<◌, ◌≤◌, ℕ, zero, suc, Bool, true, false, List, [], length, take, Option, None}
 use Rattle.std.specs.Prelude.{Some}
 use Rattle.rart_keys.specs.Filters.{below, longest_match}
-use Rattle.rart_keys.specs.SortedMap.{lookup, put, without}
+use Rattle.rart_keys.specs.SortedMap.{keys_of, lookup, put, without}
+use Rattle.rart_trie.specs.edits.InsertAllocations.{insert_allocates}
 use Rattle.rart_trie.specs.edits.PrefixRemovals.{TakeAllocates, without_prefix}
+use Rattle.rart_trie.specs.edits.RemoveAllocations.{remove_allocates}
 use Rattle.rart.specs.declared.tree.TheConstants.{MAX_PAIRS}
 
 -- the statuses of `status.rt`; 1 has a name for each call
@@ -16,6 +18,8 @@ pub data Status : Type 0 where
   KeyTooLong : Status
   BadBound : Status
   Unsorted : Status
+  BadLength : Status
+  HostBits : Status
   Unused : Status
 
 abbrev pub status_of : ℕ → Status
@@ -26,20 +30,26 @@ status_of (suc (suc (suc zero))) = Full
 status_of (suc (suc (suc (suc zero)))) = KeyTooLong
 status_of (suc (suc (suc (suc (suc zero))))) = BadBound
 status_of (suc (suc (suc (suc (suc (suc zero)))))) = Unsorted
-status_of (suc (suc (suc (suc (suc (suc (suc _))))))) = Unused
+status_of (suc (suc (suc (suc (suc (suc (suc zero))))))) = BadLength
+status_of (suc (suc (suc (suc (suc (suc (suc (suc zero)))))))) = HostBits
+status_of (suc (suc (suc (suc (suc (suc (suc (suc (suc _))))))))) = Unused
 
 -- nothing has changed: neither the pairs nor the caller's variable
 abbrev pub IsUnchanged : {A : Type 0} → List (List ℕ × ℕ) → List (List ℕ × ℕ) → A → A → Type 0
 IsUnchanged old new was is = (new ≡ old) × (is ≡ was)
 
+-- an insertion may lack memory: the key is new, and the map is empty or its keys say that the insertion allocates
+abbrev pub MayLackMemory : List (List ℕ × ℕ) → List ℕ → Type 0
+MayLackMemory old key = (lookup key old ≡ None) × (length old < MAX_PAIRS)
+    × (old ≢ [] → insert_allocates (keys_of old) key ≡ true)
+
 -- `insert`. Done: the key was new. Otherwise: it was stored, and its old value was written
 abbrev pub Inserts : ℕ → List ℕ → ℕ → List (List ℕ × ℕ) → List (List ℕ × ℕ) → ℕ → ℕ → Status → Type 0
-Inserts width key value old new was is Done = (length key ≤ width) × (lookup key old ≡ None) × (new ≡ put key value old)
-    × (is ≡ was)
+Inserts width key value old new was is Done = (length key ≤ width) × (lookup key old ≡ None) × (length old ≢ MAX_PAIRS)
+    × (new ≡ put key value old) × (is ≡ was)
 Inserts width key value old new was is Otherwise = (length key ≤ width) × (lookup key old ≡ Some is)
     × (new ≡ put key value old)
-Inserts width key value old new was is NoMemory = (length key ≤ width) × (lookup key old ≡ None)
-    × IsUnchanged old new was is
+Inserts width key value old new was is NoMemory = (length key ≤ width) × MayLackMemory old key × IsUnchanged old new was is
 Inserts width key value old new was is Full = (length key ≤ width) × (lookup key old ≡ None) × (length old ≡ MAX_PAIRS)
     × IsUnchanged old new was is
 Inserts width key value old new was is KeyTooLong = (width < length key) × IsUnchanged old new was is
@@ -48,10 +58,9 @@ Inserts width key value old new was is _ = ⊥
 -- `try_insert`. Done: the key was new. Otherwise: it is stored, and its value was written
 abbrev pub InsertsNew : ℕ → List ℕ → ℕ → List (List ℕ × ℕ) → List (List ℕ × ℕ) → ℕ → ℕ → Status → Type 0
 InsertsNew width key value old new was is Done = (length key ≤ width) × (lookup key old ≡ None)
-    × (new ≡ put key value old) × (is ≡ was)
+    × (length old ≢ MAX_PAIRS) × (new ≡ put key value old) × (is ≡ was)
 InsertsNew width key value old new was is Otherwise = (length key ≤ width) × (lookup key old ≡ Some is) × (new ≡ old)
-InsertsNew width key value old new was is NoMemory = (length key ≤ width) × (lookup key old ≡ None)
-    × IsUnchanged old new was is
+InsertsNew width key value old new was is NoMemory = (length key ≤ width) × MayLackMemory old key × IsUnchanged old new was is
 InsertsNew width key value old new was is Full = (length key ≤ width) × (lookup key old ≡ None)
     × (length old ≡ MAX_PAIRS) × IsUnchanged old new was is
 InsertsNew width key value old new was is KeyTooLong = (width < length key) × IsUnchanged old new was is
@@ -61,7 +70,8 @@ InsertsNew width key value old new was is _ = ⊥
 abbrev pub Removes : ℕ → List ℕ → List (List ℕ × ℕ) → List (List ℕ × ℕ) → ℕ → ℕ → Status → Type 0
 Removes width key old new was is Done = (length key ≤ width) × (lookup key old ≡ Some is) × (new ≡ without key old)
 Removes width key old new was is Otherwise = (length key ≤ width) × (lookup key old ≡ None) × IsUnchanged old new was is
-Removes width key old new was is NoMemory = (length key ≤ width) × (lookup key old ≢ None) × IsUnchanged old new was is
+Removes width key old new was is NoMemory = (length key ≤ width) × (lookup key old ≢ None)
+    × (remove_allocates (keys_of old) key ≡ true) × IsUnchanged old new was is
 Removes width key old new was is KeyTooLong = (width < length key) × IsUnchanged old new was is
 Removes width key old new was is _ = ⊥
 

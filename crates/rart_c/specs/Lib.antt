@@ -3,10 +3,15 @@ pub mod Batches
 pub mod Bounds
 pub mod Handles128
 pub mod Handles32
+pub mod HandlesNet4
+pub mod HandlesNet6
 pub mod Heap
 pub mod Loads
 pub mod Owned128
 pub mod Owned32
+pub mod Nets
+pub mod OwnedNet4
+pub mod OwnedNet6
 pub mod Pairs128
 pub mod Pairs32
 pub mod Parked

@@ -4,9 +4,12 @@
 //! the map out of its handle and puts it back, so a handle is used by one call at a time.
 #![tactic(auto)]
 
+mod addresses;
 mod bounds;
 mod map128;
 mod map32;
+mod net4;
+mod net6;
 mod parked;
 mod stats;
 mod status;

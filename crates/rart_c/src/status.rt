@@ -27,3 +27,9 @@ pub(crate) const BAD_BOUND: u8 = 5;
 
 /// A key is below the one before it, at the place that was written. The map has not changed.
 pub(crate) const UNSORTED: u8 = 6;
+
+/// A network has more bits than its address. Nothing has changed.
+pub(crate) const BAD_LENGTH: u8 = 7;
+
+/// A bit of the address after those of the network is set. Nothing has changed.
+pub(crate) const HOST_BITS: u8 = 8;
