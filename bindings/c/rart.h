@@ -1,11 +1,15 @@
 /* The proved map for C. Written by bindings/generate from crates/rart_c/src: change that, and run it again.
  *
- * A map is a struct of one pointer. Zeroed, as by `rart32 map = {0};`, it is empty. Free it by `rart32_free`. A table of
- * networks is such a struct too, freed by `rart_net4_free`. An address is its bytes in network order.
+ * A map is a struct of one pointer. Zeroed, as by `rart32 map = {0};`, it is empty. Free it by `rart32_free` or
+ * `rart128_free`. A table of networks is such a struct too, freed by `rart_net4_free` or `rart_net6_free`. An address is
+ * its bytes in network order, and a length that is no `uint8_t` must be tested before the call: C would cut it.
+ *
+ * A function that returns a `bool` returns true if there is an answer. A status of success is `RART_DONE`, which is 0:
+ * a network is stored if `rart_net4_get(..) == RART_DONE`, and `RART_ABSENT` says that it isn't.
  *
  * What a function does on each status is proved for every call that keeps these rules:
  * - A pointer to a key, a probe or a buffer is valid for its length, one to an address for 4 bytes or for 16; no two
- *   pointers of a call overlap if one of them is written.
+ *   pointers of a call overlap if one of them is written. Other pointers are aligned and not NULL.
  * - A map or a table is zeroed or as the last call left it, and was not copied. It is used by one call at a time, on
  *   one thread, and not from a signal handler.
  *

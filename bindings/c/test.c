@@ -305,7 +305,7 @@ static bool lacks_memory(size_t requests) {
   CHECK(rart32_len(&map) == 0 && rart_net6_len(&table) == 0);
   rart32_free(&map);
   rart_net6_free(&table);
-  CHECK(blocks == 0);
+  CHECK(blocks == 0 && map.at == NULL && table.at == NULL);
   return lacks;
 }
 

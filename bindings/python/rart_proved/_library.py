@@ -1,6 +1,7 @@
 """The shared library: `RART_SO` names it, otherwise it is beside this file, or in the folder where it is built."""
 
 import ctypes
+import operator
 import os
 import pathlib
 
@@ -18,7 +19,8 @@ def _path():
 
 
 def _load():
-    library = ctypes.CDLL(_path())
+    # PyDLL keeps the interpreter's lock during a call: a look-up takes the map out of its handle meanwhile
+    library = ctypes.PyDLL(_path())
     for name, result, arguments in _sys.CALLS:
         call = getattr(library, name)
         call.restype, call.argtypes = result, arguments
@@ -29,7 +31,8 @@ LIBRARY = _load()
 
 
 def check_value(value):
-    """Returns a value that the library can hold; raises OverflowError at another."""
+    """Returns a value that the library can hold; raises OverflowError at another integer, TypeError at what is none."""
+    value = operator.index(value)
     if not 0 <= value < 1 << 64:
         raise OverflowError("a value is an integer below 2**64")
     return value
@@ -43,4 +46,6 @@ def check(status, width=None):
         raise OverflowError("the map or the table is full")
     if status == _sys.KEY_TOO_LONG:
         raise ValueError(f"a key has at most {width} bytes")
+    if status in (_sys.BAD_LENGTH, _sys.HOST_BITS):
+        raise ValueError("not a network")
     return status

@@ -21,11 +21,12 @@ def _bytes(key):
     return bytes(key)
 
 
-class RartMap(collections.abc.MutableMapping):
-    """A map from byte strings of at most `width` bytes, 32 or 128, to integers below 2**64, ascending by key.
+def _remade(width, pairs):
+    return RartMap(pairs, width=width)
 
-    It is used by one thread at a time.
-    """
+
+class RartMap(collections.abc.MutableMapping):
+    """A map from byte strings of at most `width` bytes, 32 or 128, to integers below 2**64, ascending by key."""
 
     def __init__(self, pairs=(), *, width=32):
         if width not in _WIDTHS:
@@ -43,6 +44,10 @@ class RartMap(collections.abc.MutableMapping):
         if hasattr(self, "_free"):
             self._free(self._at)
 
+    # for `copy` and `pickle`: a copy of the handle would free the pairs of both
+    def __reduce__(self):
+        return _remade, (self._width, list(self.items()))
+
     def __len__(self):
         return self._call["len"](self._at)
 
@@ -57,8 +62,7 @@ class RartMap(collections.abc.MutableMapping):
         return self._call["get"](self._at, key, len(key), value)
 
     def __setitem__(self, key, value):
-        key, old = _bytes(key), ctypes.c_uint64()
-        check_value(value)
+        key, old, value = _bytes(key), ctypes.c_uint64(), check_value(value)
         if check(self._call["insert"](self._at, key, len(key), value, old), self._width) == _sys.DONE:
             self._edits += 1
 

@@ -42,7 +42,7 @@ class NetTable:
     """A table from IPv4 and IPv6 networks to integers below 2**64.
 
     A network is one of `ipaddress`, or what `ipaddress.ip_network` takes; it raises ValueError where bits are set after
-    those of the network. A table can't be iterated. It is used by one thread at a time.
+    those of the network. The zone of an IPv6 address is ignored. A table can't be iterated, copied or pickled.
 
     >>> from rart_proved import NetTable
     >>> routes = NetTable({"10.0.0.0/8": 1, "10.16.0.0/12": 2, "2001:db8::/32": 3})
@@ -89,6 +89,10 @@ class NetTable:
     # without it `iter` would call `__getitem__` with 0, 1, .., which are networks
     __iter__ = None
 
+    # a copy of the handles would free the routes of both
+    def __reduce__(self):
+        raise TypeError("a table of networks can't be copied or pickled")
+
     def __repr__(self):
         return f"<NetTable of {len(self)} networks>"
 
@@ -116,7 +120,7 @@ class NetTable:
     def longest_match(self, address):
         """Returns the longest network that contains an address, with its value, or None.
 
-        An address is one of `ipaddress`, or what `ipaddress.ip_address` takes. The zone of an IPv6 address is ignored.
+        An address is one of `ipaddress`, or what `ipaddress.ip_address` takes.
         """
         address, length, value = _address(address), ctypes.c_uint8(), ctypes.c_uint64()
         routes = self._versions[address.version]

@@ -1,6 +1,8 @@
 """Tests of the maps beside a dict."""
 
+import copy
 import doctest
+import pickle
 import random
 import unittest
 
@@ -101,12 +103,27 @@ class Errors(unittest.TestCase):
             RartMap({b"x": 1 << 64})
         with self.assertRaises(OverflowError):
             RartMap({b"x": -1})
+        with self.assertRaises(TypeError):
+            RartMap({b"x": 1.5})
 
     def test_an_edit_during_an_iteration(self):
         words = RartMap({b"a": 1, b"b": 2})
         with self.assertRaises(RuntimeError):
             for key in words:
                 words[key + b"x"] = 3
+
+
+class Copies(unittest.TestCase):
+    """Copies have pairs of their own."""
+
+    def test_copies(self):
+        words = RartMap({b"a": 1, b"b" * 99: 2}, width=128)
+        for made in (copy.copy(words), copy.deepcopy(words), pickle.loads(pickle.dumps(words))):
+            self.assertEqual(dict(made), dict(words))
+            made[b"c" * 100] = 3
+            del made[b"a"]
+        del made
+        self.assertEqual(dict(words), {b"a": 1, b"b" * 99: 2})
 
 
 class Documentation(unittest.TestCase):

@@ -1,7 +1,9 @@
 """Tests of the tables of networks beside a dict."""
 
+import copy
 import doctest
 import ipaddress
+import pickle
 import random
 import unittest
 
@@ -83,14 +85,24 @@ class Errors(unittest.TestCase):
         for value in (-1, 1 << 64):
             with self.assertRaises(OverflowError):
                 routes["::/0"] = value
+        with self.assertRaises(TypeError):
+            routes["::/0"] = 1.5
         self.assertEqual((len(routes), repr(routes)), (0, "<NetTable of 0 networks>"))
 
     def test_iterations(self):
         with self.assertRaises(TypeError):
             iter(NetTable())
 
+    def test_copies(self):
+        routes = NetTable({"::/0": 1})
+        for copied in (copy.copy, copy.deepcopy, pickle.dumps):
+            with self.assertRaises(TypeError):
+                copied(routes)
+        self.assertEqual(routes["::/0"], 1)
+
     def test_statuses(self):
-        for status, error in ((_sys.NO_MEMORY, MemoryError), (_sys.FULL, OverflowError)):
+        refused = ((_sys.NO_MEMORY, MemoryError), (_sys.FULL, OverflowError), (_sys.HOST_BITS, ValueError))
+        for status, error in (*refused, (_sys.BAD_LENGTH, ValueError)):
             with self.assertRaises(error):
                 _library.check(status)
 
