@@ -27,7 +27,7 @@ KIB = 1024
 SHORT = ("drop_short_keys", 6400, 256)
 
 # In so little no call can end: a row of its own shows that the limit is in force.
-LITTLE = 128
+LITTLE = 64
 
 CALLS = [
     ("insert", 1024),
