@@ -243,10 +243,10 @@ BODIES = (
     Body(
         "a deletion removes the child before it allocates the smaller storage",
         *SHRINK,
-        "let mut next = boxed_sorted(alloc)?;\n                let child = inner.map.delete_child(b);\n"
-        "                next.map.fill_from_resized(&mut inner.map);",
-        "let child = inner.map.delete_child(b);\n                let mut next = boxed_sorted(alloc)?;\n"
-        "                next.map.fill_from_resized(&mut inner.map);",
+        "let mut next = new_sorted(alloc)?;\n                let child = map.delete_child(b);\n"
+        "                next.fill_from_resized(map);",
+        "let child = map.delete_child(b);\n                let mut next = new_sorted(alloc)?;\n"
+        "                next.fill_from_resized(map);",
         (
             "error[linear-value-let-go]: control leaves here and lets `child` go, and `Option<N>` is not `Drop`, since "
             "`N` is not",
@@ -255,8 +255,8 @@ BODIES = (
     Body(
         "a wider storage loses a child",
         *GROW,
-        "next.map.fill_from_resized(&mut inner.map);",
-        "next.map.fill_from_resized(&mut inner.map);\n                let _lost = next.map.delete_child(b);",
+        "next.fill_from_resized(map);",
+        "next.fill_from_resized(map);\n                let _lost = next.delete_child(b);",
         (
             "error[linear-value-let-go]: `_lost` is let go where its block ends, and `Option<N>` is not `Drop`, since "
             "`N` is not",
@@ -265,8 +265,8 @@ BODIES = (
     Body(
         "a wider storage loses the value",
         *GROW,
-        "fill(&mut next.value, inner.value.take());\n                self.replace_empty(Storage::Node16(next));",
-        "let _lost = inner.value.take();\n                self.replace_empty(Storage::Node16(next));",
+        "fill(next.extra_mut(), map.extra_mut().take());\n                self.replace_empty(Storage::Node16(next));",
+        "let _lost = map.extra_mut().take();\n                self.replace_empty(Storage::Node16(next));",
         (
             "error[linear-value-let-go]: `_lost` is let go where its block ends, and `Option<V>` is not `Drop`, since "
             "`V` is not",
