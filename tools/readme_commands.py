@@ -82,7 +82,7 @@ OTHER_ROWS += [
     ("./rows nofile", 2, "", "rows: nofile: No such file or directory\n"),
     ("./rows tests/edits/ends.rows >/dev/full", 1, "", "rows: cannot write\n"),
     ("./rows >&-", 1, "", "rows: cannot write\n"),
-    (f"{SPLIT} | ./rows /dev/stdin", 0, f"{PLAYED}0 requests refused\n{PLAYED}17 requests refused\n", ""),
+    (f"{SPLIT} | ./rows /dev/stdin", 0, f"{PLAYED}0 requests refused\n{PLAYED}9 requests refused\n", ""),
 ]
 
 # Far more seconds than a command takes, on a busy machine too, and less than it takes to prove a program.
