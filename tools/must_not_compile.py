@@ -423,6 +423,24 @@ MISUSES = [
         """,
         ("E0277",),
     ),
+    Misuse(
+        "in Rust, two threads read one map",
+        """
+        let map = rart_proved::U64Map::<rart_proved::W32>::new();
+        let len = std::thread::scope(|scope| scope.spawn(|| map.len()).join().unwrap());
+        assert_eq!(len, map.len());
+        """,
+        ("E0277",),
+    ),
+    Misuse(
+        "in Rust, two threads read one table",
+        """
+        let table = rart_proved::NetTable6::<u64>::new();
+        let len = std::thread::scope(|scope| scope.spawn(|| table.len()).join().unwrap());
+        assert_eq!(len, table.len());
+        """,
+        ("E0277",),
+    ),
 ]
 
 MANIFEST = """[package]

@@ -1,5 +1,6 @@
 -- What each edit of a tree returns, and the map after it, with Ok and with Err.
 use Rattle.std.specs.Prelude.{◌≡◌, ◌≢◌, ℕ, Bool, List, length, is_some, Option, None, Result, Ok, Err, MatchResult}
+use Rattle.std.specs.Option.{UnwrapsOrElse}
 use Rattle.rart_keys.specs.Filters.{below}
 use Rattle.rart_keys.specs.SortedMap.{lookup, put, without}
 use Rattle.rart_trie.specs.declared.refused.Refused.{Refused}
@@ -53,3 +54,7 @@ module _ {V : Type 0} where
   abbrev pub RemovesPrefix : List ℕ → List (List ℕ × V) → List (List ℕ × V) → Result ℕ TreeError → Type 0
   RemovesPrefix prefix old new (Ok count) = (count ≡ length (below prefix old)) × (new ≡ without_prefix prefix old)
   RemovesPrefix prefix old new (Err error) = MayRefuseTakePrefix old prefix error × (new ≡ old)
+
+  -- the key has a value now: the stored one, if it was stored, and else one of which New holds
+  abbrev pub HoldsPair : List ℕ → (V → Type 0) → List (List ℕ × V) → List (List ℕ × V) → Type 0
+  HoldsPair key New old new = (value : V) × UnwrapsOrElse (lookup key old) New value × (new ≡ put key value old)

@@ -1,7 +1,7 @@
 -- What a tree ends as once what was borrowed from it is over.
-use Rattle.std.specs.Prelude.{◌≡◌, ℕ, List, Bool, Option, OnSome, ⊤}
+use Rattle.std.specs.Prelude.{◌≡◌, ℕ, List, Bool, Option, Result, OnSome, ⊤}
 use Rattle.std.specs.declared.cmp.Ordering.{Ordering}
-use Rattle.std.specs.Borrow.{Fml, LendsSo, MutBor, follows_so}
+use Rattle.std.specs.Borrow.{Fml, LendsSo, LendsSoOk, MutBor, follows_so}
 use mathlib.Core.Option.{none}
 use denote.RattleType.{RattleType}
 use Rattle.rart_keys.specs.SortedMap.{put}
@@ -36,3 +36,10 @@ abbrev pub lends_value : (K V P : RattleType) → KeyMembers K.Denot → partial
     → MutBor (MapAndShape V.Denot) → List ℕ → Option (MutBor V.Denot) → Fml
 lends_value K V P k p tree key lent = LendsSo (tree_row K V P k p) V tree lent
     (λ t w. OnSome lent ((t.pairs ≡ put key w tree.now.pairs) × (t.nodes ≡ tree.now.nodes))) (λ t. t ≡ tree.now)
+
+-- the value at a key was borrowed from the tree, after an insertion if the key was new: the tree ends with what was left
+-- at that key; if the insertion was refused, it is unchanged
+abbrev pub lends_put : {E : Type 0} → (K V P : RattleType) → KeyMembers K.Denot → partials.Ghosts P.Denot
+    → MutBor (MapAndShape V.Denot) → List ℕ → Result (MutBor V.Denot) E → Fml
+lends_put K V P k p tree key lent = LendsSoOk (tree_row K V P k p) V tree lent
+    (λ t w. t.pairs ≡ put key w tree.now.pairs) (λ t. t ≡ tree.now)

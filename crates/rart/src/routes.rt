@@ -19,6 +19,7 @@ ghost use Rattle.rart.specs.declared.tree.TheConstants.{MAX_PAIRS};
 
 mod append;
 mod clones;
+mod debug;
 mod edits;
 mod ends;
 mod equal;

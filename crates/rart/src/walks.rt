@@ -8,6 +8,8 @@
 pub(crate) mod both_ends;
 mod by_bytes;
 mod callbacks;
+mod common_prefix;
+mod counts;
 pub(crate) mod descending;
 pub mod iter;
 mod nearest;

@@ -145,6 +145,16 @@ fn write_all(tree: &mut Tree) -> usize {
     stored
 }
 
+// Lends each value, one of them after an insertion, and returns how many there are.
+fn hold_all(tree: &mut Tree) -> Option<usize> {
+    tree.delete_k(&key(1024)).ok()?;
+    for length in 1..1025 {
+        let value = tree.get_or_insert_with_k(&key(length), || 1).ok()?;
+        *value = 5;
+    }
+    Some(tree.len())
+}
+
 // Writes to each value by one walk, and returns how many there are.
 fn walk_mut(tree: &mut Tree) -> usize {
     let mut walked: usize = 0;
@@ -204,6 +214,7 @@ pub fn edit(tree: &mut Tree, name: &str) -> Option<usize> {
         "update" => update_in_turn(tree),
         "try_update" => try_update_in_turn(tree),
         "get_mut" => Some(write_all(tree)),
+        "get_or_insert" => hold_all(tree),
         "values_mut" => Some(walk_mut(tree)),
         "retain" => retain(tree),
         "clear" => Some(clear(tree)),

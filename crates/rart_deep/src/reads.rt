@@ -45,6 +45,7 @@ pub fn read_both(one: &Tree, other: &Tree, name: &str) -> Option<usize> {
     match name {
         "equal" => equal(one, other),
         "intersect_count" => Some(one.intersect_count(other)),
+        "intersect_subset" => Some(if one.is_subset(other) { one.len() } else { 0 }),
         "intersect_values" => Some(intersect_values(one, other)),
         "intersect_keys" => intersect_keys(one, other),
         "intersect_views" => intersect_views(one, other),
@@ -112,6 +113,7 @@ pub fn read(tree: &Tree, name: &str) -> Option<usize> {
         "first_key_value" => first(tree),
         "last_key_value" => last(tree),
         "count_below" => counted_below(tree),
+        "count_prefix" => Some(tree.count_prefix_k(&key(2))),
         "clone" => cloned(tree),
         _ => walk(tree, name),
     }

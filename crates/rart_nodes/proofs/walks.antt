@@ -1,4 +1,5 @@
 pub mod CallLemmas
+pub mod CommonPrefixLemmas
 pub mod CutCounts
 pub mod CutLemmas
 pub mod EntryLemmas

@@ -1,4 +1,5 @@
 pub mod ChildrenCode
+pub mod CommonPrefixes
 pub mod KeyViews
 pub mod Matched
 pub mod Matches

@@ -9,7 +9,7 @@ use crate::names::{
 pub type Entry = (&'static str, Call, &'static str);
 
 // Where two names are one call, the second is the word of the program `rart_script`.
-static NAMES: [Entry; 81] = [
+static NAMES: [Entry; 86] = [
     ("get", Call::Look(Look::Get), "k"),
     ("contains_key", Call::Look(Look::ContainsKey), "k"),
     (
@@ -23,6 +23,7 @@ static NAMES: [Entry; 81] = [
         Call::Look(Look::LongestPrefixValue),
         "k",
     ),
+    ("count_prefix", Call::Look(Look::CountPrefix), "k"),
     ("first_at_or_after", Call::Look(Look::FirstAtOrAfter), "k"),
     ("first_after", Call::Look(Look::FirstAfter), "k"),
     ("last_at_or_before", Call::Look(Look::LastAtOrBefore), "k"),
@@ -79,6 +80,16 @@ static NAMES: [Entry; 81] = [
     ("try_insert", Call::Insertion(Insertion::TryInsert), "kv"),
     ("insert_new", Call::Insertion(Insertion::InsertNew), "kv"),
     ("get_mut", Call::Insertion(Insertion::GetMut), "kv"),
+    (
+        "get_or_insert",
+        Call::Insertion(Insertion::GetOrInsert),
+        "kv",
+    ),
+    (
+        "get_or_insert_with",
+        Call::Insertion(Insertion::GetOrInsertWith),
+        "kv",
+    ),
     ("update", Call::Insertion(Insertion::Update), "ku"),
     ("try_update", Call::Insertion(Insertion::TryUpdate), "ku"),
     ("remove", Call::Removal(Removal::Remove), "k"),
@@ -104,6 +115,8 @@ static NAMES: [Entry; 81] = [
     ("clone", Call::Both(Both::Clone), ""),
     ("equal", Call::Both(Both::Equal), ""),
     ("swap", Call::Both(Both::Swap), ""),
+    ("is_subset", Call::Both(Both::IsSubset), ""),
+    ("is_disjoint", Call::Both(Both::IsDisjoint), ""),
     ("intersect_count", Call::Both(Both::IntersectCount), ""),
     (
         "intersect_values_with",

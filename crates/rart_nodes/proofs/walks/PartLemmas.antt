@@ -20,7 +20,9 @@ use Rattle.rart_trie.proofs.tries.CanonicalTests.{IsCanonical-test}
 use Rattle.rart_trie.proofs.tries.NodeCounts.{length-own_pair, two-edges}
 use Rattle.rart_trie.proofs.tries.Descents.{Keeps, descend-left, descend-on, descends}
 use Rattle.rart_trie.proofs.tries.StepLemmas.{longest-of, longest-below}
-use Rattle.rart_nodes.proofs.walks.EntryLemmas.{join-after, joined-entries, values-after, values-entries}
+use Rattle.rart_nodes.specs.walks.PathParts.{byte_segments}
+use Rattle.rart_nodes.proofs.walks.EntryLemmas.{join-after, joined-entries, joins-bytes, values-after}
+use Rattle.rart_nodes.proofs.walks.EntryLemmas.{values-entries}
 use Rattle.rart_trie.proofs.tries.BelowLemmas.{below-after_some, below-apart, below-nil, below-child}
 
 module _ {V : Type 0} where
@@ -99,6 +101,18 @@ module _ {V : Type 0} where
       = subst (Finds g k (below p (tree_pairs o))) e (part-finds g k p o w) in ap length h.1.0
       ∙ length-with_prefix h.0 (pairs_of u)
 
+  -- and they are the pairs below that node, after the bytes of the path to it
+  pub part-after : (p q : List ℕ) (o : Option (Trie V)) (u : Trie V) → IsCanonicalTree o
+      → tree_part byte_segments [] p o ≡ Some (byte_segments q, u) → below p (tree_pairs o) ≡ with_prefix q (pairs_of u)
+  part-after p q o u w e = let h : Finds byte_segments [] (below p (tree_pairs o)) (Some (byte_segments q, u))
+      = subst (Finds byte_segments [] (below p (tree_pairs o))) e (part-finds byte_segments [] p o w) in
+      h.1.0 ∙ ap (λ z. with_prefix z (pairs_of u)) (sym (h.1.1 joins-bytes) ∙ joins-bytes q)
+
+  -- no node is found where no key begins with the prefix
+  pub part-none : (g : Grown) (k : SegmentList) (p : List ℕ) (o : Option (Trie V)) → IsCanonicalTree o
+      → tree_part g k p o ≡ None → below p (tree_pairs o) ≡ []
+  part-none g k p o w e = subst (Finds g k (below p (tree_pairs o))) e (part-finds g k p o w)
+
   -- one step of the way: the prefix leaves the node's own, ends within it or after it, or continues
   pub part-out : (g : Grown) (k : SegmentList) (t : Trie V) (p : List ℕ) → None ≡ strip_prefix (prefix_of t) p
       → begins p (prefix_of t) ≡ false → None ≡ tree_part g k p (Some t)
@@ -107,6 +121,10 @@ module _ {V : Type 0} where
   pub part-within : (g : Grown) (k : SegmentList) (t : Trie V) (p : List ℕ) → None ≡ strip_prefix (prefix_of t) p
       → begins p (prefix_of t) ≡ true → Some (k, t) ≡ tree_part g k p (Some t)
   part-within g k t p e h = sym (ap (λ f. f k) (descend-left (finds g) t p e) ∙ rw h refl)
+
+  pub part-ended : (g : Grown) (k : SegmentList) (t : Trie V) (p : List ℕ) → Some [] ≡ strip_prefix (prefix_of t) p
+      → Some (k, t) ≡ tree_part g k p (Some t)
+  part-ended g k (node q v n cs) p e = rw (← e) refl
 
   pub part-on : (g : Grown) (k : SegmentList) (t : Trie V) (p r : List ℕ) (b : ℕ) → is_canonical t ≡ true
       → Some r ≡ strip_prefix (prefix_of t) p → Some b ≡ slice_get r 0

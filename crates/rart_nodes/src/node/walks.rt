@@ -2,6 +2,7 @@
 //! visits.
 
 mod below;
+mod common_prefix;
 pub(crate) mod control;
 mod count_pairs;
 pub(crate) mod descending;

@@ -40,6 +40,24 @@ fn try_insert<K: KeyTrait>(tree: &mut Tree<K>, key: &K, value: u64) -> Option<u6
     }
 }
 
+// Adds one to the value at the key, which is inserted first if the key is new.
+fn hold<K: KeyTrait>(tree: &mut Tree<K>, key: &K, call: &Call) -> Option<u64> {
+    let value = call.value;
+    let held = if call.choice % 16 < 8 {
+        tree.get_or_insert_k(key, value)
+    } else {
+        tree.get_or_insert_with_k(key, move || value)
+    };
+    match held {
+        Ok(place) => {
+            let found = *place;
+            *place = found.wrapping_add(1);
+            Some(sum_of(Some(found)))
+        }
+        Err(refusal) => refused(refusal, value),
+    }
+}
+
 fn insert_new<K: KeyTrait>(tree: &mut Tree<K>, key: &K, value: u64) -> Option<u64> {
     match tree.insert_new_k(key, value) {
         Ok(()) => Some(sum_if(true)),
@@ -136,6 +154,11 @@ pub fn takes_below(call: &Call) -> bool {
     call.choice % 256 == 2
 }
 
+/// Whether an insertion lends the value, and adds one to it.
+pub fn holds(call: &Call) -> bool {
+    call.choice % 4 == 1
+}
+
 /// Whether a write is one over all values below the first half of the key.
 pub fn writes_below(call: &Call) -> bool {
     call.choice % 4 == 3
@@ -229,6 +252,7 @@ fn try_update<K: KeyTrait>(tree: &mut Tree<K>, key: &K, call: &Call) -> Option<u
 pub fn edit<K: KeyTrait + Drop>(tree: &mut Tree<K>, key: &K, call: &Call) -> Option<u64> {
     match call.kind {
         0 | 1 => insert(tree, key, call.value),
+        2 if holds(call) => hold(tree, key, call),
         2 => try_insert(tree, key, call.value),
         3 => insert_new(tree, key, call.value),
         4 if pops(call) => popped(tree.pop_first()),

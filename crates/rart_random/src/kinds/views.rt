@@ -35,7 +35,8 @@ fn prefix_views<K: KeyTrait>(tree: &Tree<K>, prefix: &K) -> Option<u64> {
     let mut state = (1_u64, 0_u64);
     tree.prefix_for_each_view_k(prefix, |view, value| state = next_view(state, view, *value))
         .ok()?;
-    Some(mix(state.0, state.1))
+    let count = tree.count_prefix_k(prefix) as u64;
+    Some(mix(mix(state.0, state.1), count))
 }
 
 fn range_views<K: KeyTrait + Drop>(tree: &Tree<K>, start: &K, end: &K, ways: u64) -> Option<u64> {
@@ -98,10 +99,17 @@ fn views_with<K: KeyTrait>(one: &Tree<K>, other: &Tree<K>) -> Option<u64> {
     Some(sum)
 }
 
+// The number of shared keys, and whether the trees are equal, one a subset of the other, and disjoint.
+fn compare<K: KeyTrait>(one: &Tree<K>, other: &Tree<K>) -> u64 {
+    let shared = mix(one.intersect_count(other) as u64, sum_if(*one == *other));
+    let is_subset = sum_if(one.is_subset(other));
+    mix(mix(shared, is_subset), sum_if(one.is_disjoint(other)))
+}
+
 /// The call about both trees.
 pub fn join<K: KeyTrait + Drop>(one: &Tree<K>, other: &Tree<K>, kind: u64) -> Option<u64> {
     match kind {
-        28 => Some(mix(one.intersect_count(other) as u64, sum_if(*one == *other))),
+        28 => Some(compare(one, other)),
         29 => Some(values_with(one, other)),
         30 => keys_with(one, other),
         _ => views_with(one, other),

@@ -1,7 +1,7 @@
 //! What an edit must answer, by the model, and what the model is after it.
 use crate::call::Call;
 use crate::kinds::edits::{
-    clears, pops, removes, removes_below, takes_below, writes, writes_below,
+    clears, holds, pops, removes, removes_below, takes_below, writes, writes_below,
 };
 use crate::kinds::retains::wanted_retain;
 use crate::model::Model;
@@ -15,6 +15,12 @@ fn insert_new(model: &mut Model, key: &Text, value: u64) -> Option<u64> {
         model.put(key, value);
     }
     old
+}
+
+fn hold(model: &mut Model, key: &Text, value: u64) -> u64 {
+    let found = model.get(key).unwrap_or(value);
+    model.put(key, found.wrapping_add(1));
+    sum_of(Some(found))
 }
 
 fn overwrite(model: &mut Model, key: &Text, value: u64) -> u64 {
@@ -104,6 +110,7 @@ pub fn pop(model: &mut Model, place: usize) -> u64 {
 pub fn edit(model: &mut Model, key: &Text, call: &Call) -> u64 {
     match call.kind {
         0 | 1 => sum_of(model.put(key, call.value)),
+        2 if holds(call) => hold(model, key, call.value),
         2 => sum_of(insert_new(model, key, call.value)),
         3 => sum_if(insert_new(model, key, call.value).is_none()),
         4 if pops(call) => pop(model, 0),

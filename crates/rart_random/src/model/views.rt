@@ -91,7 +91,8 @@ pub fn view(model: &Model, key: &Text, end: &Text, call: &Call) -> u64 {
         24 => views(model, 0, model.len()),
         25 => {
             let below = model.below(key);
-            views(model, below.0, below.1)
+            let count = below.1.saturating_sub(below.0) as u64;
+            mix(views(model, below.0, below.1), count)
         }
         26 => views(
             model,
@@ -125,7 +126,9 @@ pub fn join(one: &Model, other: &Model, kind: u64) -> u64 {
         }
     }
     if kind == 28 {
-        mix(sum, sum_if(are_equal(one, other)))
+        let is_subset = sum_if(sum == one.len() as u64);
+        let shared = mix(sum, sum_if(are_equal(one, other)));
+        mix(mix(shared, is_subset), sum_if(sum == 0))
     } else {
         sum
     }

@@ -134,6 +134,8 @@ pub fn call_both<K: KeyTrait + Drop>(
         Both::Clone => clone_into(tree, other, answer),
         Both::Equal => put_equal(tree, other, answer),
         Both::Swap => swap(tree, other, answer),
+        Both::IsSubset => answer.truth(tree.is_subset(other)),
+        Both::IsDisjoint => answer.truth(tree.is_disjoint(other)),
         _ => intersect(tree, other, both, form, answer),
     }
 }

@@ -141,6 +141,46 @@ fn overwrite<K: KeyTrait + Drop>(
     }
 }
 
+// The value that is lent, to which one is added, or the refusal.
+fn put_held(held: Result<&mut u64, Refused<u64>>, offered: u64, answer: &mut Answer) {
+    match held {
+        Ok(place) => {
+            answer.number(*place);
+            *place = (*place).wrapping_add(1);
+        }
+        Err(refused) => answer.returned(refused.error, refused.value, offered),
+    }
+}
+
+fn get_or_insert<K: KeyTrait + Drop>(
+    tree: &mut Tree<K>,
+    key: &K,
+    value: u64,
+    form: Form,
+    answer: &mut Answer,
+) {
+    if form.takes_key() {
+        put_held(tree.get_or_insert(same_key(key), value), value, answer);
+    } else {
+        put_held(tree.get_or_insert_k(key, value), value, answer);
+    }
+}
+
+fn get_or_insert_with<K: KeyTrait + Drop>(
+    tree: &mut Tree<K>,
+    key: &K,
+    value: u64,
+    form: Form,
+    answer: &mut Answer,
+) {
+    if form.takes_key() {
+        let held = tree.get_or_insert_with(same_key(key), move || value);
+        put_held(held, value, answer);
+    } else {
+        put_held(tree.get_or_insert_with_k(key, move || value), value, answer);
+    }
+}
+
 /// Inserts a value at a key, or updates the one there.
 pub fn insert_at<K: KeyTrait + Drop>(
     tree: &mut Tree<K>,
@@ -156,6 +196,8 @@ pub fn insert_at<K: KeyTrait + Drop>(
         Insertion::TryInsert => try_insert(tree, key, value, form, answer),
         Insertion::InsertNew => put_new(insert_new(tree, key, value, form), value, answer),
         Insertion::GetMut => answer.value(overwrite(tree, key, value, form)),
+        Insertion::GetOrInsert => get_or_insert(tree, key, value, form, answer),
+        Insertion::GetOrInsertWith => get_or_insert_with(tree, key, value, form, answer),
         Insertion::Update => update(tree, key, &args.request, form, answer),
         Insertion::TryUpdate => try_update(tree, key, &args.request, form, answer),
     }

@@ -55,6 +55,16 @@ fn longest_value<K: KeyTrait + Drop>(tree: &Tree<K>, key: &K, form: Form) -> Opt
     }
 }
 
+fn count_prefix<K: KeyTrait + Drop>(tree: &Tree<K>, prefix: &K, form: Form) -> usize {
+    if form.takes_key() {
+        tree.count_prefix(same_key(prefix))
+    } else if form.gives_bytes() {
+        tree.count_prefix_bytes(prefix.as_ref())
+    } else {
+        tree.count_prefix_k(prefix)
+    }
+}
+
 fn first_from<K: KeyTrait + Drop>(tree: &Tree<K>, key: &K, form: Form, answer: &mut Answer) {
     if form.takes_key() {
         put_found(tree.first_at_or_after(same_key(key)), answer);
@@ -100,6 +110,7 @@ pub fn look<K: KeyTrait + Drop>(
         Look::ContainsKey => answer.truth(contains(tree, key, form)),
         Look::LongestPrefixMatch => longest(tree, key, form, answer),
         Look::LongestPrefixValue => answer.value(longest_value(tree, key, form)),
+        Look::CountPrefix => answer.count(count_prefix(tree, key, form)),
         Look::FirstAtOrAfter => first_from(tree, key, form, answer),
         Look::FirstAfter => first_after(tree, key, form, answer),
         Look::LastAtOrBefore => last_until(tree, key, form, answer),

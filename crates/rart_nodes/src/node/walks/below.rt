@@ -1,6 +1,6 @@
 //! The descent to the node at or below a prefix, and walks from there.
 ghost use Rattle.std.specs.Prelude.{◌≡◌, ◌≢◌, ◌≤◌, ◌+◌, ◌*◌, [], length, reverse, MatchOption, IfOk};
-ghost use Rattle.std.specs.Prelude.{None, OnErr, Some, option_map};
+ghost use Rattle.std.specs.Prelude.{IfSome, None, OnErr, Some, option_map, take};
 ghost use Rattle.rart_keys.specs.Filters.{below};
 ghost use Rattle.rart_keys.specs.SortedMap.{longest_key};
 ghost use Rattle.rart_nodes.specs.ranges.Potential.{AreLow, tree_height};
@@ -9,6 +9,7 @@ ghost use Rattle.rart_trie.specs.stats.Stats.{height, trie_height};
 ghost use Rattle.rart_trie.specs.tries.Tree.{tree_pairs};
 ghost use Rattle.rart_trie.specs.tries.Trie.{pairs_of};
 ghost use Rattle.rart_nodes.specs.walks.Part.{EntersPart, part_entries, tree_part};
+ghost use Rattle.rart_nodes.specs.walks.PathParts.{byte_segments};
 ghost use Rattle.rart_trie.specs.walks.ProbeCount.{probe_count, tree_entered};
 ghost use Rattle.rart_nodes.specs.walks.WalkSteps.{HasPlaces, IsWalkAt, walk_entries, walk_nodes};
 
@@ -22,23 +23,27 @@ use std::alloc::AllocError;
 
 mod from_back;
 
-/// Visits the node at or below `prefix`; the path is the one to it, without its own prefix.
-fn seek_prefix<'a, P: Partial, V, C: Count, T: Path<'a, P>>(
+/// Visits the node at or below `prefix`, and returns it with the number of bytes of `prefix` that lead to it. The path is
+/// the one to it, without its own prefix.
+pub(super) fn seek_prefix<'a, P: Partial, V, C: Count, T: Path<'a, P>>(
     top: Option<Shared<'a, P, V, C>>,
     prefix: &[u8],
     path: &mut T,
     counter: &mut C,
-) -> Option<Entered<'a, P, V, C>>
+) -> Option<(Entered<'a, P, V, C>, usize)>
     requires reserved { length (T.kept path.old)
         + longest_key (tree_pairs (option_map (λ s. s.node.now) top))
         ≤ T.capacity path.old }
     ensures found { EntersPart T.grown (T.kept path.old) prefix.now
-        (option_map (λ s. s.node.now) top.entry) result (T.kept path.new) }
+        (option_map (λ s. s.node.now) top.entry) (option_map (λ r. r.0) result) (T.kept path.new) }
+    ensures depth { IfSome result (λ r. (r.1 ≤ length prefix.now)
+        × (tree_part byte_segments [] prefix.now (option_map (λ s. s.node.now) top.entry)
+        ≡ Some (byte_segments (take r.1 prefix.now), r.0.node.now))) }
     ensures deep { MatchOption result (Unit {0})
-        (λ e. length (T.kept path.new) + longest_key (pairs_of e.node.now)
+        (λ r. length (T.kept path.new) + longest_key (pairs_of r.0.node.now)
         ≤ length (T.kept path.old)
         + longest_key (tree_pairs (option_map (λ s. s.node.now) top.entry))) }
-    ensures low { MatchOption result (Unit {0}) (λ e. trie_height e.node.now
+    ensures low { MatchOption result (Unit {0}) (λ r. trie_height r.0.node.now
         ≤ tree_height (option_map (λ s. s.node.now) top.entry)) }
     ensures path_capacity { T.capacity path.old ≤ T.capacity path.new }
     ensures requested { T.requested path.new ≡ T.requested path.old }
@@ -49,14 +54,15 @@ fn seek_prefix<'a, P: Partial, V, C: Count, T: Path<'a, P>>(
     let mut rest = prefix;
     while let Some(node) = next {
         let at = node.enter(counter);
+        let depth = prefix.len() - rest.len();
         let Some(after) = strip_prefix(at.prefix(), rest) else {
             if at.prefix().starts_with(rest) {
-                return Some(at);
+                return Some((at, depth));
             }
             return None;
         };
         let Some(byte) = after.first() else {
-            return Some(at);
+            return Some((at, depth));
         };
         path.grow(at.prefix());
         next = at.child(*byte);
@@ -96,7 +102,7 @@ impl<'a, K: KeyTrait, V, C: Count> Seen<'a, K, V, C> {
             return Ok(empty_walk(alloc));
         };
         let (mut path, levels) = self.new_path_and_levels::<T, _>()?;
-        let Some(at) = seek_prefix(Some(top), prefix, &mut path, counter) else {
+        let Some((at, _depth)) = seek_prefix(Some(top), prefix, &mut path, counter) else {
             return Ok(empty_walk(alloc));
         };
         let walk = walk_at(levels, longest, &mut path, at);

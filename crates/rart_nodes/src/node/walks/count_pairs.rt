@@ -1,10 +1,14 @@
-//! The number of pairs of a shared tree, found node by node.
+//! The number of pairs of a shared tree, and of those below a prefix, found node by node.
 ghost use Rattle.std.specs.Prelude.{◌≡◌, ◌+◌, ◌*◌, ◌≤◌, length};
+ghost use Rattle.rart_keys.specs.Filters.{below};
 ghost use Rattle.rart_nodes.specs.tries.SeenTrees.{seen_nodes, seen_pairs};
 ghost use Rattle.rart_trie.specs.tries.Trie.{pairs_of};
 ghost use Rattle.rart_trie.specs.tries.TrieCode.{node_count};
+ghost use Rattle.rart_trie.specs.walks.BelowPrefix.{below_bound, below_visits};
 
 use crate::node::seen::{Entered, Seen};
+use crate::node::walk::path::NoPath;
+use crate::node::walks::below::seek_prefix;
 use rart_keys::{KeyTrait, Partial};
 use rart_trie::Count;
 
@@ -42,6 +46,31 @@ impl<'a, K: KeyTrait, V, C: Count> Seen<'a, K, V, C> {
                 let node = top.enter(counter);
                 count_below(node, counter)
             }
+            None => 0,
+        }
+    }
+
+    /// Returns the number of pairs whose key begins with the bytes `prefix`. The number of all pairs must fit. It makes
+    /// no key and does not allocate.
+    ///
+    /// # Visits
+    ///
+    /// At most `prefix.len() + 1` nodes on the way to the pairs, and two for each pair.
+    pub fn count_prefix_bytes_counted(self, prefix: &[u8], counter: &mut C) -> usize
+        requires { length (seen_pairs self) ≤ usize.MAX }
+        ensures value { result ≡ length (below prefix.now (seen_pairs self.entry)) }
+        ensures visits { C.number counter.new
+            ≤ C.number counter.old + below_visits prefix.now (seen_pairs self.entry) }
+        ensures bound { C.number counter.new
+            ≤ C.number counter.old + below_bound prefix.now (seen_pairs self.entry) }
+    {
+        // its contract says that no key is longer than a path can hold
+        self.longest();
+        let Some(top) = self.top() else {
+            return 0;
+        };
+        match seek_prefix(Some(top), prefix, &mut NoPath, counter) {
+            Some((at, _depth)) => count_below(at, counter),
             None => 0,
         }
     }

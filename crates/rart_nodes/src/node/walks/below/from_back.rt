@@ -42,7 +42,7 @@ impl<'a, K: KeyTrait, V, C: Count> Seen<'a, K, V, C> {
             return Ok(empty_back_walk(alloc));
         };
         let (mut path, levels) = self.new_path_and_levels::<T, _>()?;
-        let Some(at) = seek_prefix(Some(top), prefix, &mut path, counter) else {
+        let Some((at, _depth)) = seek_prefix(Some(top), prefix, &mut path, counter) else {
             return Ok(empty_back_walk(alloc));
         };
         let walk = back_walk_at(levels, longest, &mut path, at);

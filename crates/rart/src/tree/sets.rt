@@ -1,0 +1,30 @@
+//! Two trees as sets of keys: whether one has all keys of the other, and whether they share any.
+ghost use Rattle.std.specs.Prelude.{◌↔◌, IsTrue};
+ghost use Rattle.rart_keys.specs.Joins.{AreApart, AreKeysOf};
+
+use crate::tree::AdaptiveRadixTree;
+use rart_keys::KeyTrait;
+
+impl<K: KeyTrait, V> AdaptiveRadixTree<K, V> {
+    /// Returns whether each key of this tree is a key of `other`. The values don't count. Makes no key, allocates
+    /// nothing. A tree with more keys is no subset, which is known without a visit.
+    pub fn is_subset<W>(&self, other: &AdaptiveRadixTree<K, W>) -> bool
+        ensures { IsTrue result ↔ AreKeysOf self.now.pairs other.now.pairs }
+    {
+        self.canonical();
+        other.canonical();
+        rart_keys::laws::joins::<V, W>();
+        rart_keys::laws::joins::<W, V>();
+        self.len() <= other.len() && self.intersect_count(other) == self.len()
+    }
+
+    /// Returns whether no key of this tree is a key of `other`. The values don't count. Makes no key, allocates
+    /// nothing.
+    pub fn is_disjoint<W>(&self, other: &AdaptiveRadixTree<K, W>) -> bool
+        ensures { IsTrue result ↔ AreApart self.now.pairs other.now.pairs }
+    {
+        self.canonical();
+        rart_keys::laws::joins::<V, W>();
+        self.intersect_count(other) == 0
+    }
+}
