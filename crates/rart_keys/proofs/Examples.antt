@@ -8,6 +8,7 @@ use Rattle.rart_keys.specs.LittleEndianWord.{little_endian_number}
 use Rattle.rart_keys.specs.NumberBytes.{sign_flipped, big_endian_number}
 use Rattle.rart_keys.proofs.strings.CommonPrefixes.{greatest_from_value}
 use Rattle.rart_keys.specs.ByteStrings.{IsLess, begins, byte_after, strip_prefix}
+use Rattle.rart_keys.specs.ByteTexts.{key_text}
 use Rattle.std.specs.declared.ops.Bound.TheVariants.{Included, Excluded, Unbounded}
 use Rattle.rart_keys.specs.Filters.{below, matches, longest_match}
 use Rattle.rart_keys.specs.Ranges.{between}
@@ -127,3 +128,9 @@ within_ends : (between (Included (97 ∷ [])) (Excluded (98 ∷ [])) nested ≡ 
     × (between (Included (98 ∷ [])) (Excluded (97 ∷ [])) nested ≡ []) × (between Unbounded Unbounded nested ≡ nested)
     × (between Unbounded (Excluded []) nested ≡ [])
 within_ends = (refl, refl, refl, refl, refl, refl, refl)
+
+-- a plain byte is its own text; a backslash and each byte below 32 or above 126 is escaped
+texts_of_keys : (key_text [] ≡ []) × (key_text (codes "a key~") ≡ codes "a key~")
+    × (key_text (codes "a\\b") ≡ codes "a\\x5cb")
+    × (key_text (0 ∷ 31 ∷ 32 ∷ 126 ∷ 127 ∷ 171 ∷ 255 ∷ []) ≡ codes "\\x00\\x1f ~\\x7f\\xab\\xff")
+texts_of_keys = (refl, refl, refl, refl)
