@@ -1,10 +1,9 @@
 -- What each edit of a tree returns, and the map after it, with Ok and with Err.
 use Rattle.std.specs.Prelude.{◌≡◌, ◌≢◌, ℕ, Bool, List, length, is_some, Option, None, Result, Ok, Err, MatchResult}
 use Rattle.std.specs.Option.{UnwrapsOrElse}
-use Rattle.rart_keys.specs.Filters.{below}
+use Rattle.rart_keys.specs.Filters.{below, without_prefix}
 use Rattle.rart_keys.specs.SortedMap.{lookup, put, without}
 use Rattle.rart_trie.specs.declared.refused.Refused.{Refused}
-use Rattle.rart_trie.specs.edits.PrefixRemovals.{without_prefix}
 use Rattle.rart_parts.specs.declared.error.TreeError.{TreeError}
 use Rattle.rart.specs.MapAndShape.{MapAndShape}
 use Rattle.rart.specs.Refusals.{MayRefuseRemove, MayRefuseInsert, MayRefuseTakePrefix, ShowsWhy, IsNotInserted}

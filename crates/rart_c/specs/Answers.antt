@@ -2,10 +2,10 @@
 -- what it holds.
 use Rattle.std.specs.Prelude.{◌≡◌, ◌≢◌, ◌<◌, ◌≤◌, ℕ, zero, suc, Bool, true, false, List, [], length, take, Option, None}
 use Rattle.std.specs.Prelude.{Some}
-use Rattle.rart_keys.specs.Filters.{below, longest_match}
+use Rattle.rart_keys.specs.Filters.{below, longest_match, without_prefix}
 use Rattle.rart_keys.specs.SortedMap.{keys_of, lookup, put, without}
 use Rattle.rart_trie.specs.edits.InsertAllocations.{insert_allocates}
-use Rattle.rart_trie.specs.edits.PrefixRemovals.{TakeAllocates, without_prefix}
+use Rattle.rart_trie.specs.edits.PrefixRemovals.{TakeAllocates}
 use Rattle.rart_trie.specs.edits.RemoveAllocations.{remove_allocates}
 use Rattle.rart.specs.declared.tree.TheConstants.{MAX_PAIRS}
 

@@ -6,10 +6,13 @@ use Rattle.rart_keys.specs.KeyBytes.{IsWithin, AreBytes}
 use Rattle.rart_keys.specs.CommonPrefix.{IsCommonPrefixLength}
 use Rattle.rart_keys.specs.LittleEndianWord.{little_endian_number}
 use Rattle.rart_keys.specs.NumberBytes.{sign_flipped, big_endian_number}
+use Rattle.rart_keys.proofs.maps.JoinLengths.{apart-from_length, keys-from_length, length-from_keys}
 use Rattle.rart_keys.proofs.strings.CommonPrefixes.{greatest_from_value}
 use Rattle.rart_keys.specs.ByteStrings.{IsLess, begins, byte_after, strip_prefix}
+use Rattle.rart_keys.specs.ByteTexts.{key_text}
 use Rattle.std.specs.declared.ops.Bound.TheVariants.{Included, Excluded, Unbounded}
-use Rattle.rart_keys.specs.Filters.{below, matches, longest_match}
+use Rattle.rart_keys.specs.Filters.{below, without_prefix, matches, longest_match}
+use Rattle.rart_keys.specs.Joins.{AreKeysOf, ShareNoKey, join}
 use Rattle.rart_keys.specs.Ranges.{between}
 use Rattle.rart_keys.specs.SortedMap.{lookup, put, without}
 
@@ -109,6 +112,11 @@ pairs_below : (below (97 ∷ []) nested ≡ (97 ∷ [], 1) ∷ (97 ∷ 98 ∷ []
     × (below (99 ∷ []) nested ≡ [])
 pairs_below = (refl, refl, refl)
 
+-- those that don't begin with "a", with nothing, with "c"
+pairs_not_below : (without_prefix (97 ∷ []) nested ≡ ([], 0) ∷ (98 ∷ [], 3) ∷ []) × (without_prefix [] nested ≡ [])
+    × (without_prefix (99 ∷ []) nested ≡ nested)
+pairs_not_below = (refl, refl, refl)
+
 -- those whose key begins "abz", "", "c"
 pairs_matched : (matches (97 ∷ 98 ∷ 122 ∷ []) nested ≡ ([], 0) ∷ (97 ∷ [], 1) ∷ (97 ∷ 98 ∷ [], 2) ∷ [])
     × (matches [] nested ≡ ([], 0) ∷ []) × (matches (99 ∷ []) nested ≡ ([], 0) ∷ [])
@@ -127,3 +135,22 @@ within_ends : (between (Included (97 ∷ [])) (Excluded (98 ∷ [])) nested ≡ 
     × (between (Included (98 ∷ [])) (Excluded (97 ∷ [])) nested ≡ []) × (between Unbounded Unbounded nested ≡ nested)
     × (between Unbounded (Excluded []) nested ≡ [])
 within_ends = (refl, refl, refl, refl, refl, refl, refl)
+
+-- a plain byte is its own text; a backslash and each byte below 32 or above 126 is escaped
+texts_of_keys : (key_text [] ≡ []) × (key_text (codes "a key~") ≡ codes "a key~")
+    × (key_text (codes "a\\b") ≡ codes "a\\x5cb")
+    × (key_text (0 ∷ 31 ∷ 32 ∷ 126 ∷ 127 ∷ 171 ∷ 255 ∷ []) ≡ codes "\\x00\\x1f ~\\x7f\\xab\\xff")
+texts_of_keys = (refl, refl, refl, refl)
+
+-- "cat" is a key of both, "cab" of the first alone
+joined : join stored first_pair ≡ (cat, (5, 1)) ∷ []
+joined = refl
+
+key_of_both : AreKeysOf first_pair stored
+key_of_both = keys-from_length first_pair stored refl
+
+key_of_one : ¬ AreKeysOf stored first_pair
+key_of_one h = let n : 1 ≡ 2 = length-from_keys stored first_pair h in omega (arith, n)
+
+key_of_neither : ShareNoKey stored nested
+key_of_neither = apart-from_length stored nested refl

@@ -1,8 +1,10 @@
 pub mod BulkListLemmas
 pub mod BulkReadLemmas
+pub mod JoinLengths
 pub mod JoinsOfMaps
 pub mod LongestMatchLemmas
 pub mod LongestStored
+pub mod PartLemmas
 pub mod PutAllLemmas
 pub mod RangeLemmas
 pub mod SortedMaps

@@ -1,11 +1,15 @@
--- The pairs of a sorted map whose key a string begins, and those whose key begins it.
-use Rattle.std.specs.Prelude.{ℕ, List, [], ◌∷◌, Option, Some, None, option_map}
+-- The pairs of a sorted map whose key a string begins, the other pairs, and those whose key begins it.
+use Rattle.std.specs.Prelude.{ℕ, not, List, [], ◌∷◌, Option, Some, None, option_map}
 use Rattle.std.specs.List.{filter}
 use Rattle.rart_keys.specs.ByteStrings.{begins}
 
 -- the pairs whose key p begins, in order
 abbrev pub below : {V : Type 0} → List ℕ → List (List ℕ × V) → List (List ℕ × V)
 below p es = filter (λ e. begins p e.0) es
+
+-- the pairs whose key p doesn't begin, in order
+abbrev pub without_prefix : {V : Type 0} → List ℕ → List (List ℕ × V) → List (List ℕ × V)
+without_prefix p es = filter (λ e. not (begins p e.0)) es
 
 -- the pairs whose key begins q, in order: the shortest first
 abbrev pub matches : {V : Type 0} → List ℕ → List (List ℕ × V) → List (List ℕ × V)

@@ -1,5 +1,5 @@
 -- The keys that two maps share.
-use Rattle.std.specs.Prelude.{ℕ, List, [], ◌∷◌, map, Option, Some, None}
+use Rattle.std.specs.Prelude.{◌≡◌, ◌≢◌, ℕ, List, [], ◌∷◌, map, Option, Some, None}
 use Rattle.rart_keys.specs.SortedMap.{lookup}
 
 -- both values, where both are there
@@ -21,3 +21,11 @@ join (e ∷ es) m = ahead_if e.0 e.1 (lookup e.0 m) (join es m)
 -- the same keys with the two values the other way round
 abbrev pub swapped_pairs : {V W : Type 0} → List (List ℕ × (V × W)) → List (List ℕ × (W × V))
 swapped_pairs es = map (λ e. (e.0, (e.1.1, e.1.0))) es
+
+-- each key of l is a key of m
+abbrev pub AreKeysOf : {V W : Type 0} → List (List ℕ × V) → List (List ℕ × W) → Type 0
+AreKeysOf l m = (k : List ℕ) → lookup k l ≢ None → lookup k m ≢ None
+
+-- no key of l is a key of m
+abbrev pub ShareNoKey : {V W : Type 0} → List (List ℕ × V) → List (List ℕ × W) → Type 0
+ShareNoKey l m = (k : List ℕ) → lookup k l ≢ None → lookup k m ≡ None

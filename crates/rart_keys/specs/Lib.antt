@@ -2,6 +2,7 @@ pub mod ArrPartialBytes
 pub mod ArrayKeyBytes
 pub mod BulkLists
 pub mod ByteStrings
+pub mod ByteTexts
 pub mod CommonPrefix
 pub mod ComparedKeys
 pub mod Filters

@@ -1,11 +1,13 @@
-//! Laws of the sorted map, of keys and their order, and of longest matches, each the contract of a function.
-ghost use Rattle.std.specs.Prelude.{◌≡◌, ◌≢◌, ◌≤◌, ◌+◌, ℕ, List, Some, None, length};
-ghost use Rattle.rart_keys.specs.Joins.{both, join, swapped_pairs};
+//! Laws of the sorted map and its parts, of keys and their order, and of longest matches, each the contract of a
+//! function.
+ghost use Rattle.std.specs.Prelude.{◌≡◌, ◌≢◌, ◌≤◌, ◌↔◌, ◌+◌, ℕ, List, Some, None, length};
+ghost use Rattle.rart_keys.specs.Joins.{AreKeysOf, ShareNoKey, both, join, swapped_pairs};
 ghost use Rattle.rart_keys.specs.SortedMap.{IsAscending, count_of, lookup, put, without};
 
 pub mod bulk_lists;
 pub mod key_order;
 pub mod longest;
+pub mod parts;
 
 /// Proves the laws of the sorted map. Ascending lists with the same look-ups are equal. `put` and `without` keep a
 /// list ascending and change only the look-up of their key. Removing a newly inserted key restores the list.
@@ -31,7 +33,8 @@ pub fn sorted_map<V>()
 {}
 
 /// Proves the laws of the join of two maps. It ascends, holds the keys of both with both values, and is no longer than
-/// the first map. Swapping the maps swaps the values.
+/// the first map. It is as long as the first map exactly if each key of that map is a key of the second. It is empty
+/// exactly if the maps share no key. Swapping the maps swaps the values.
 pub fn joins<V, W>()
     ensures ascending { (l : List (List ℕ × V)) (m : List (List ℕ × W)) → IsAscending l
         → IsAscending (join l m) }
@@ -39,6 +42,10 @@ pub fn joins<V, W>()
         → lookup k (join l m) ≡ both (lookup k l) (lookup k m) }
     ensures join_length { (l : List (List ℕ × V)) (m : List (List ℕ × W))
         → length (join l m) ≤ length l }
+    ensures whole { (l : List (List ℕ × V)) (m : List (List ℕ × W))
+        → (length (join l m) ≡ length l) ↔ AreKeysOf l m }
+    ensures apart { (l : List (List ℕ × V)) (m : List (List ℕ × W))
+        → (length (join l m) ≡ 0) ↔ ShareNoKey l m }
     ensures other_way { (l : List (List ℕ × V)) (m : List (List ℕ × W)) → IsAscending l
         → IsAscending m
         → join m l ≡ swapped_pairs (join l m) }

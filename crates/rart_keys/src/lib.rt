@@ -9,6 +9,7 @@ pub mod keys;
 pub mod laws;
 pub mod partials;
 mod strip;
+mod texts;
 
 pub use crate::common_prefix::common_prefix_length;
 pub use crate::copies::copy_bytes;

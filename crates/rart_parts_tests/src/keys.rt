@@ -3,4 +3,5 @@
 mod numbers;
 mod parts;
 mod slices;
+mod texts;
 mod whole;

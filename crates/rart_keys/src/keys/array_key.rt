@@ -7,7 +7,9 @@ use crate::inline_bytes::joined_bytes;
 use crate::keys::KeyTrait;
 use crate::partials::Partial;
 use crate::partials::array_partial::ArrPartial;
+use crate::texts::write_bytes;
 use std::cmp::Ordering;
+use std::fmt;
 use std::hash::{Hash, Hasher};
 
 mod numbers;
@@ -138,6 +140,20 @@ impl<const N: usize> Hash for ArrayKey<N> {
         let bytes = self.as_slice();
         state.write_usize(bytes.len());
         state.write(bytes);
+    }
+}
+
+/// Writes the bytes as text. A printable ASCII byte other than the backslash stands for itself. Every other byte is
+/// written as `\xNN`, with two small hex digits.
+impl<const N: usize> fmt::Display for ArrayKey<N> {
+    ghost use Rattle.std.specs.Prelude.{Some};
+    ghost use Rattle.rart_keys.specs.ArrayKeyBytes.{array_key_bytes};
+    ghost use Rattle.rart_keys.specs.ByteTexts.{key_text};
+
+    ghost output = { λ key. Some (key_text (array_key_bytes key)) };
+
+    fn fmt<W: fmt::Write>(&self, f: &mut fmt::Formatter<W>) -> fmt::Result {
+        write_bytes(self.as_slice(), f)
     }
 }
 

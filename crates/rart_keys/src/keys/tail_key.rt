@@ -7,7 +7,9 @@ use crate::inline_bytes::joined_at_end;
 use crate::keys::KeyTrait;
 use crate::partials::Partial;
 use crate::partials::array_partial::ArrPartial;
+use crate::texts::write_bytes;
 use std::cmp::Ordering;
+use std::fmt;
 use std::hash::{Hash, Hasher};
 
 /// Holds at most `N` bytes of a key at the end of its array. The bytes of the array before the key are zero.
@@ -139,6 +141,19 @@ impl<const N: usize> Hash for TailKey<N> {
         let bytes = self.as_slice();
         state.write_usize(bytes.len());
         state.write(bytes);
+    }
+}
+
+/// Writes the bytes as text, as `Display` of an [`ArrayKey`](crate::keys::array_key::ArrayKey) does.
+impl<const N: usize> fmt::Display for TailKey<N> {
+    ghost use Rattle.std.specs.Prelude.{Some};
+    ghost use Rattle.rart_keys.specs.ByteTexts.{key_text};
+    ghost use Rattle.rart_keys.specs.TailKeyBytes.{tail_key_bytes};
+
+    ghost output = { λ key. Some (key_text (tail_key_bytes key)) };
+
+    fn fmt<W: fmt::Write>(&self, f: &mut fmt::Formatter<W>) -> fmt::Result {
+        write_bytes(self.as_slice(), f)
     }
 }
 

@@ -3,10 +3,9 @@ use Rattle.std.proofs.Common.{◌≡◌, ℕ, ◌+◌, ◌<◌, ◌≤◌, ⊎_e
 use Rattle.std.proofs.Common.{sym, ap, ◌∙◌, arith, Option, Some, None, if◌then◌else◌}
 use Rattle.std.specs.List.{filter}
 use Rattle.rart_keys.specs.ByteStrings.{begins, strip_prefix}
-use Rattle.rart_keys.specs.Filters.{below}
+use Rattle.rart_keys.specs.Filters.{below, without_prefix}
 use Rattle.rart_keys.specs.SortedMap.{longest_key}
 use Rattle.rart_keys.proofs.strings.ByteOrder.{eq-yes, eq-no, equal_or_not}
-use Rattle.rart_trie.specs.edits.PrefixRemovals.{without_prefix}
 use Rattle.rart_trie.specs.tries.Trie.{own_pair, with_prefix}
 use Rattle.rart_trie.proofs.tries.FirstBytes.{AllFirst, AllFrom}
 use Rattle.rart_trie.proofs.tries.PrefixedStrings.{begins-after, begins-apart}

@@ -5,10 +5,10 @@ use Rattle.std.proofs.lemmas.List.{append-nil}
 use Rattle.std.proofs.lemmas.List.Elements.{filter-append}
 use Rattle.std.specs.Prelude.{not}
 use Rattle.rart_keys.specs.ByteStrings.{begins, strip_prefix}
-use Rattle.rart_keys.specs.Filters.{below}
+use Rattle.rart_keys.specs.Filters.{below, without_prefix}
 use Rattle.rart_keys.proofs.strings.ByteOrder.{order, is_less, is_equal, is_greater}
 use Rattle.rart_trie.specs.edits.PrefixRemovals.{children_without_prefix, finds_below, prefixed_trie, remaining_after}
-use Rattle.rart_trie.specs.edits.PrefixRemovals.{tree_below, tree_without_prefix, trie_without_prefix, without_prefix}
+use Rattle.rart_trie.specs.edits.PrefixRemovals.{tree_below, tree_without_prefix, trie_without_prefix}
 use Rattle.rart_trie.specs.tries.PrefixLaws.{prefix-twice}
 use Rattle.rart_trie.specs.tries.Tree.{IsCanonicalTree, tree_pairs}
 use Rattle.rart_trie.specs.tries.Trie.{Trie, node, Children, no_children, child, pairs_of, children_pairs, own_pair}

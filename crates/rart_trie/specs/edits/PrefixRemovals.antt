@@ -1,7 +1,6 @@
 -- What is below a prefix, and what a tree is without it.
-use Rattle.std.specs.Prelude.{ℕ, ◌≡◌, ◌≢◌, not, Bool, true, false, List, [], ◌∷◌, ◌++◌, Option, Some, None, option_map}
+use Rattle.std.specs.Prelude.{ℕ, ◌≡◌, ◌≢◌, Bool, true, false, List, [], ◌∷◌, ◌++◌, Option, Some, None, option_map}
 use Rattle.std.specs.Prelude.{if◌then◌else◌}
-use Rattle.std.specs.List.{filter}
 use Rattle.std.specs.Option.{unwrap_or}
 use Rattle.std.specs.Ordering.{nat_cmp, match_ordering}
 use Rattle.rart_keys.specs.ByteStrings.{begins, strip_prefix}
@@ -11,10 +10,6 @@ use Rattle.rart_trie.specs.edits.RemoveAllocations.{last_before, moves_down, shr
 use Rattle.rart_trie.specs.shapes.Shape.{NodeRecord, record_at}
 use Rattle.rart_trie.specs.tries.Trie.{Trie, node, Children, no_children, child, Descent, descend, descend_tree}
 use Rattle.rart_trie.specs.tries.Trie.{prefix_of, value_of, record_of, collapsed_node, child_if}
-
--- the pairs whose key p doesn't begin, in order
-abbrev pub without_prefix : {V : Type 0} → List ℕ → List (List ℕ × V) → List (List ℕ × V)
-without_prefix p es = filter (λ e. not (begins p e.0)) es
 
 -- a node with p in front of its prefix
 abbrev pub prefixed_trie : {V : Type 0} → List ℕ → Trie V → Trie V

@@ -6,13 +6,12 @@ ghost use Rattle.std.specs.Prelude.{◌≡◌, ◌≢◌, ◌+◌, ◌-◌, ◌�
 ghost use Rattle.std.specs.Prelude.{OnErr, OnOk, option_map};
 ghost use Rattle.rart_parts.specs.Errors.{IsMemory};
 ghost use Rattle.rart_keys.specs.ByteStrings.{begins};
-ghost use Rattle.rart_keys.specs.Filters.{below};
+ghost use Rattle.rart_keys.specs.Filters.{below, without_prefix};
 ghost use Rattle.rart_keys.specs.KeyBytes.{IsWithin};
 ghost use Rattle.rart_keys.specs.SortedMap.{longest_key};
 ghost use Rattle.rart_trie.specs.edits.Deletion.{JoinsWithin, ShrinksWithout, without_child};
 ghost use Rattle.rart_trie.specs.edits.PrefixRemovals.{TakeAllocates, prefixed_trie, tree_below, tree_without_prefix};
 ghost use Rattle.rart_trie.specs.edits.PrefixRemovals.{trie_take_prefix_allocates, trie_below, trie_without_prefix};
-ghost use Rattle.rart_trie.specs.edits.PrefixRemovals.{without_prefix};
 ghost use Rattle.rart_trie.specs.tries.Tree.{IsCanonicalTree, tree_pairs};
 ghost use Rattle.rart_trie.specs.tries.Trie.{IsCanonical, child_in, children_in, pairs_of, prefix_of};
 
