@@ -10,7 +10,8 @@ pub mod longest;
 pub mod parts;
 
 /// Proves the laws of the sorted map. Ascending lists with the same look-ups are equal. `put` and `without` keep a
-/// list ascending and change only the look-up of their key. Removing a newly inserted key restores the list.
+/// list ascending and change only the look-up of their key. Of two values put at a key the second stays. Removing a
+/// newly inserted key restores the list.
 pub fn sorted_map<V>()
     ensures one_list { (xs ys : List (List ℕ × V)) → IsAscending xs → IsAscending ys
         → ((q : List ℕ) → lookup q xs ≡ lookup q ys) → xs ≡ ys }
@@ -20,6 +21,8 @@ pub fn sorted_map<V>()
         → lookup k (put k v es) ≡ Some v }
     ensures put_elsewhere { (q k : List ℕ) (v : V) (es : List (List ℕ × V)) → q ≢ k
         → lookup q (put k v es) ≡ lookup q es }
+    ensures put_twice { (k : List ℕ) (v w : V) (es : List (List ℕ × V)) → IsAscending es
+        → put k w (put k v es) ≡ put k w es }
     ensures put_length { (k : List ℕ) (v : V) (es : List (List ℕ × V)) → IsAscending es
         → length (put k v es) + count_of (lookup k es) ≡ length es + 1 }
     ensures without_ascends { (k : List ℕ) (es : List (List ℕ × V)) → IsAscending es

@@ -9,6 +9,8 @@ ghost use Rattle.rart.specs.Refusals.{MayRefuseInsert};
 
 use crate::tree::AdaptiveRadixTree;
 use rart_keys::KeyTrait;
+use rart_keys::laws::sorted_map;
+use rart_laws::put_back;
 use rart_nodes::{NotInserted, Refused};
 
 impl<K: KeyTrait, V> AdaptiveRadixTree<K, V> {
@@ -43,6 +45,8 @@ impl<K: KeyTrait, V> AdaptiveRadixTree<K, V> {
         ensures refused { IfErr result (λ r. F.post f r.value
             × MayRefuseInsert self.old.pairs (K.bytes key.now) r.error) }
     {
+        self.canonical();
+        sorted_map::<V>();
         self.hold_with(key, f)?;
         match self.get_mut_k(key) {
             Some(value) => Ok(value),
@@ -94,6 +98,8 @@ impl<K: KeyTrait, V> AdaptiveRadixTree<K, V> {
         ensures refused { IfErr result (λ r. (r.value ≡ value)
             × MayRefuseInsert self.old.pairs (K.bytes key.now) r.error) }
     {
+        self.canonical();
+        sorted_map::<V>();
         self.hold(key, value)?;
         match self.get_mut_k(key) {
             Some(stored) => Ok(stored),
@@ -132,6 +138,7 @@ impl<K: KeyTrait, V> AdaptiveRadixTree<K, V> {
         ensures unchanged { OnErr result (self.new ≡ self.old) }
     {
         self.canonical();
+        put_back::<V>();
         if self.contains_key_k(key) {
             return Ok(());
         }
@@ -153,6 +160,7 @@ impl<K: KeyTrait, V> AdaptiveRadixTree<K, V> {
         ensures unchanged { OnErr result (self.new ≡ self.old) }
     {
         self.canonical();
+        put_back::<V>();
         match self.insert_new_k(key, value) {
             Ok(()) | Err(NotInserted::Stored(_)) => Ok(()),
             Err(NotInserted::Refused(refused)) => Err(refused),

@@ -1,6 +1,6 @@
 //! Two trees as sets of keys: whether one has all keys of the other, and whether they share any.
 ghost use Rattle.std.specs.Prelude.{◌↔◌, IsTrue};
-ghost use Rattle.rart_keys.specs.Joins.{AreApart, AreKeysOf};
+ghost use Rattle.rart_keys.specs.Joins.{AreKeysOf, ShareNoKey};
 
 use crate::tree::AdaptiveRadixTree;
 use rart_keys::KeyTrait;
@@ -21,7 +21,7 @@ impl<K: KeyTrait, V> AdaptiveRadixTree<K, V> {
     /// Returns whether no key of this tree is a key of `other`. The values don't count. Makes no key, allocates
     /// nothing.
     pub fn is_disjoint<W>(&self, other: &AdaptiveRadixTree<K, W>) -> bool
-        ensures { IsTrue result ↔ AreApart self.now.pairs other.now.pairs }
+        ensures { IsTrue result ↔ ShareNoKey self.now.pairs other.now.pairs }
     {
         self.canonical();
         rart_keys::laws::joins::<V, W>();

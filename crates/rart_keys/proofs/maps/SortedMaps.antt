@@ -140,6 +140,16 @@ module _ {V : Type 0} where
       → lookup q (without k es) ≡ lookup q es
   lookup-without_elsewhere q k es n = lookup-without q k es ∙ rw (bytes_eq-differ k q (λ e. n (sym e))) refl
 
+  -- of two values put at one key the second stays
+  pub put-twice : (k : List ℕ) (v w : V) (es : List (List ℕ × V)) → IsAscending es → put k w (put k v es) ≡ put k w es
+  put-twice k v w es h = equal_by_lookups (put k w (put k v es)) (put k w es)
+      (ascending-put k w (put k v es) (ascending-put k v es h)) (ascending-put k w es h)
+      (λ q. rw (lookup-put q k w (put k v es), lookup-put q k v es, lookup-put q k w es) (elim (bytes_eq k q)
+      as (λ b. (if b then Some w else (if b then Some v else lookup q es)) ≡ (if b then Some w else lookup q es)) [
+        | true ↦ refl
+        | false ↦ refl
+      ]))
+
   -- a new key that is taken out again leaves the list as it was
   pub without-put : (k : List ℕ) (v : V) (es : List (List ℕ × V)) → IsAscending es → lookup k es ≡ None
       → without k (put k v es) ≡ es
