@@ -65,6 +65,7 @@ CALLS = [
     ("first_key_value", 1),
     ("last_key_value", 1024),
     ("count_below", 1023),
+    ("common_prefix", 2),
     ("count_prefix", 1023),
     ("clone", 1024),
     ("iter", 1024),

@@ -2,6 +2,7 @@ pub mod AppendLemmas
 pub mod EditLemmas
 pub mod EqualLemmas
 pub mod FieldLemmas
+pub mod HeldLemmas
 pub mod Lending
 pub mod LentAndShared
 pub mod LentAndSharedKeepingKey

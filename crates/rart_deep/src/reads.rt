@@ -113,6 +113,7 @@ pub fn read(tree: &Tree, name: &str) -> Option<usize> {
         "first_key_value" => first(tree),
         "last_key_value" => last(tree),
         "count_below" => counted_below(tree),
+        "common_prefix" => Some(tree.longest_common_prefix_k(&key(2))?.as_ref().len()),
         "count_prefix" => Some(tree.count_prefix_k(&key(2))),
         "clone" => cloned(tree),
         _ => walk(tree, name),

@@ -232,6 +232,17 @@ impl Answer {
         self.run.note(follows, key, value, self.text.len());
     }
 
+    /// A key without a value, or `none`.
+    pub fn bare_key(&mut self, key: Option<&[u8]>) {
+        match key {
+            Some(bytes) => {
+                self.space();
+                self.key(bytes);
+            }
+            None => self.word(b"none"),
+        }
+    }
+
     /// A value of a list.
     pub fn item(&mut self, value: u64) {
         let follows = self.begins_item(b"", value);

@@ -33,6 +33,7 @@ pub enum Look {
     LongestPrefixMatch,
     LongestPrefixValue,
     CountPrefix,
+    LongestCommonPrefix,
     FirstAtOrAfter,
     FirstAfter,
     LastAtOrBefore,

@@ -9,7 +9,7 @@ use crate::names::{
 pub type Entry = (&'static str, Call, &'static str);
 
 // Where two names are one call, the second is the word of the program `rart_script`.
-static NAMES: [Entry; 86] = [
+static NAMES: [Entry; 87] = [
     ("get", Call::Look(Look::Get), "k"),
     ("contains_key", Call::Look(Look::ContainsKey), "k"),
     (
@@ -24,6 +24,11 @@ static NAMES: [Entry; 86] = [
         "k",
     ),
     ("count_prefix", Call::Look(Look::CountPrefix), "k"),
+    (
+        "longest_common_prefix",
+        Call::Look(Look::LongestCommonPrefix),
+        "k",
+    ),
     ("first_at_or_after", Call::Look(Look::FirstAtOrAfter), "k"),
     ("first_after", Call::Look(Look::FirstAfter), "k"),
     ("last_at_or_before", Call::Look(Look::LastAtOrBefore), "k"),

@@ -8,9 +8,13 @@ use std::fmt;
 /// fails, so does the writing.
 impl<K: KeyTrait + fmt::Debug + Drop, V: fmt::Debug> fmt::Debug for AdaptiveRadixTree<K, V> {
     fn fmt<W: fmt::Write>(&self, f: &mut fmt::Formatter<W>) -> fmt::Result {
-        match self.iter() {
-            Ok(pairs) => f.debug_map().entries(pairs).finish(),
-            Err(_) => Err(fmt::Error),
+        let Ok(mut pairs) = self.iter() else {
+            return Err(fmt::Error);
+        };
+        let mut map = f.debug_map();
+        while let Some((key, value)) = pairs.next() {
+            map.entry(&key, value);
         }
+        map.finish()
     }
 }

@@ -162,7 +162,8 @@ impl<K: KeyTrait, V> AdaptiveRadixTree<K, V> {
         self.canonical();
         put_back::<V>();
         match self.insert_new_k(key, value) {
-            Ok(()) | Err(NotInserted::Stored(_)) => Ok(()),
+            Ok(()) => Ok(()),
+            Err(NotInserted::Stored(_)) => Ok(()),
             Err(NotInserted::Refused(refused)) => Err(refused),
         }
     }

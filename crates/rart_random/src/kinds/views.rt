@@ -31,12 +31,15 @@ fn all_views<K: KeyTrait>(tree: &Tree<K>) -> Option<u64> {
     Some(mix(state.0, state.1))
 }
 
-fn prefix_views<K: KeyTrait>(tree: &Tree<K>, prefix: &K) -> Option<u64> {
+fn prefix_views<K: KeyTrait + Drop>(tree: &Tree<K>, prefix: &K) -> Option<u64> {
     let mut state = (1_u64, 0_u64);
     tree.prefix_for_each_view_k(prefix, |view, value| state = next_view(state, view, *value))
         .ok()?;
-    let count = tree.count_prefix_k(prefix) as u64;
-    Some(mix(mix(state.0, state.1), count))
+    let sum = mix(mix(state.0, state.1), tree.count_prefix_k(prefix) as u64);
+    Some(match tree.longest_common_prefix_bytes(prefix.as_ref()) {
+        Some(shared) => mix_bytes(sum, shared.as_ref()),
+        None => sum,
+    })
 }
 
 fn range_views<K: KeyTrait + Drop>(tree: &Tree<K>, start: &K, end: &K, ways: u64) -> Option<u64> {

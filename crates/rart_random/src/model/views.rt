@@ -84,6 +84,19 @@ fn longest_view(model: &Model, probe: &Text) -> u64 {
     }
 }
 
+// Mixes the bytes that the first and the last key of some places share at their start, if there are any keys.
+fn mix_shared_start(sum: u64, model: &Model, places: (usize, usize)) -> u64 {
+    if places.0 >= places.1 {
+        return sum;
+    }
+    match (model.at(places.0), model.at(places.1.wrapping_sub(1))) {
+        (Some((first, _)), Some((last, _))) => {
+            mix_bytes(sum, first.cut(first.shared(&last)).as_slice())
+        }
+        _ => sum,
+    }
+}
+
 /// The call with views.
 pub fn view(model: &Model, key: &Text, end: &Text, call: &Call) -> u64 {
     let ways = call.choice % 9;
@@ -92,7 +105,7 @@ pub fn view(model: &Model, key: &Text, end: &Text, call: &Call) -> u64 {
         25 => {
             let below = model.below(key);
             let count = below.1.saturating_sub(below.0) as u64;
-            mix(views(model, below.0, below.1), count)
+            mix_shared_start(mix(views(model, below.0, below.1), count), model, below)
         }
         26 => views(
             model,

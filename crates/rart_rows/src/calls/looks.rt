@@ -65,6 +65,20 @@ fn count_prefix<K: KeyTrait + Drop>(tree: &Tree<K>, prefix: &K, form: Form) -> u
     }
 }
 
+fn common_prefix<K: KeyTrait + Drop>(tree: &Tree<K>, prefix: &K, form: Form, answer: &mut Answer) {
+    let found = if form.takes_key() {
+        tree.longest_common_prefix(same_key(prefix))
+    } else if form.gives_bytes() {
+        tree.longest_common_prefix_bytes(prefix.as_ref())
+    } else {
+        tree.longest_common_prefix_k(prefix)
+    };
+    match &found {
+        Some(key) => answer.bare_key(Some(key.as_ref())),
+        None => answer.bare_key(None),
+    }
+}
+
 fn first_from<K: KeyTrait + Drop>(tree: &Tree<K>, key: &K, form: Form, answer: &mut Answer) {
     if form.takes_key() {
         put_found(tree.first_at_or_after(same_key(key)), answer);
@@ -111,6 +125,7 @@ pub fn look<K: KeyTrait + Drop>(
         Look::LongestPrefixMatch => longest(tree, key, form, answer),
         Look::LongestPrefixValue => answer.value(longest_value(tree, key, form)),
         Look::CountPrefix => answer.count(count_prefix(tree, key, form)),
+        Look::LongestCommonPrefix => common_prefix(tree, key, form, answer),
         Look::FirstAtOrAfter => first_from(tree, key, form, answer),
         Look::FirstAfter => first_after(tree, key, form, answer),
         Look::LastAtOrBefore => last_until(tree, key, form, answer),
