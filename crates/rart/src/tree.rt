@@ -20,7 +20,6 @@ mod append;
 mod bulk;
 mod by_bytes;
 mod clones;
-mod debug;
 mod ends;
 mod equal;
 mod extend;

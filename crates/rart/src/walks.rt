@@ -10,6 +10,7 @@ mod by_bytes;
 mod callbacks;
 mod common_prefix;
 mod counts;
+mod debug;
 pub(crate) mod descending;
 pub mod iter;
 mod nearest;
