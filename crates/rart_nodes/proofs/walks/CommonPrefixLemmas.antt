@@ -71,9 +71,9 @@ module _ {V : Type 0} where
         prefix-append p (pairs_of u) (children_pairs cs),
       ) at h in
       two-ways p q (pairs_of t) (pairs_of u) b c (omega (arith, w.2.3.0)) (pairs_of-first b t w.2.1)
-          (pairs_of-first c u w.2.3.1) (some-pairs t w.2.2) (some-pairs u w.2.3.2)
-          (each-front q (with_prefix p (pairs_of t)) _ both)
-          (each-front q (with_prefix p (pairs_of u)) _ (each-back q (with_prefix p (pairs_of t)) _ both))
+      (pairs_of-first c u w.2.3.1) (some-pairs t w.2.2) (some-pairs u w.2.3.2)
+      (each-front q (with_prefix p (pairs_of t)) _ both)
+      (each-front q (with_prefix p (pairs_of u)) _ (each-back q (with_prefix p (pairs_of t)) _ both))
 
   common-root : (t : Trie V) → IsCanonical t → IsCommonPrefix (prefix_of t) (keys_of (pairs_of t))
   common-root (node p v n cs) w = record {

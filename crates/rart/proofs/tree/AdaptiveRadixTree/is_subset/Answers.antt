@@ -8,8 +8,7 @@ pub returns-else-len : goal.returns-else-len
 returns-else-len g c =
     let l = c.args.self.now.pairs in
     let m = c.args.other.now.pairs in
-    let as_long : length (swapped_pairs (join l m)) ≡ length (join l m) = length-map (join l m) _ in
-    (
+    let as_long : length (swapped_pairs (join l m)) ≡ length (join l m) = length-map (join l m) _ in (
       λ t. absurd (omega (arith, c.if-len.false, leb-true _ _ t)),
       λ h. absurd (omega (
         arith,

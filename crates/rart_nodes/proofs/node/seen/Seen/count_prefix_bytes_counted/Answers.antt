@@ -74,7 +74,7 @@ returns-in-None-clause-value g c =
     let p = c.args.prefix.now in
     let o = option_copied c.args.self.root in
     ap length (sym (part-none no_segment [] p o (IsCanonicalTree-test _ c.args.self.canonical)
-        (ap (tree_part no_segment [] p) (sym c.in-Some.ensures) ∙ c.in-None.ensures.found)))
+    (ap (tree_part no_segment [] p) (sym c.in-Some.ensures) ∙ c.in-None.ensures.found)))
 
 pub returns-in-None-clause-visits : goal.returns-in-None-clause-visits
 returns-in-None-clause-visits g c =

@@ -16,7 +16,7 @@ pub returns-in_default-seek_prefix-clause-value : goal.returns-in_default-seek_p
 returns-in_default-seek_prefix-clause-value g c =
     let p = c.args.prefix.now in
     part-none no_segment [] p (option_copied c.args.self.root) (IsCanonicalTree-test _ c.args.self.canonical)
-        (ap (tree_part no_segment [] p) (sym c.in-Some.ensures) ∙ c.in_default-seek_prefix.ensures.found)
+    (ap (tree_part no_segment [] p) (sym c.in-Some.ensures) ∙ c.in_default-seek_prefix.ensures.found)
 
 pub returns-in_default-seek_prefix-clause-visits : goal.returns-in_default-seek_prefix-clause-visits
 returns-in_default-seek_prefix-clause-visits g c =

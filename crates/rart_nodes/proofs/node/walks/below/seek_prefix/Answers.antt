@@ -43,8 +43,7 @@ returns-then-starts_with-clause-depth g c =
     let whole : length p ≡ length q.0 + length r = ap length q.1 ∙ length-append q.0 r in
     let passed : length p - length r ≡ length q.0 = omega (arith, whole) in
     let led : take (length p - length r) p ≡ q.0
-    = ap (λ n. take n p) passed ∙ ap (take (length q.0)) q.1 ∙ take-append_seam q.0 r in
-    (
+    = ap (λ n. take n p) passed ∙ ap (take (length q.0)) q.1 ∙ take-append_seam q.0 r in (
       omega arith,
       sym (rw (c.in-Some.is, ← c.enter-at.ensures.shown) at q.2)
           ∙ sym (part-within byte_segments (byte_segments q.0) t r e h)
