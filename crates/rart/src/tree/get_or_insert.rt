@@ -24,13 +24,6 @@ impl<K: KeyTrait, V> AdaptiveRadixTree<K, V> {
     /// [`TreeError::Full`](rart_parts::TreeError::Full) or [`TreeError::Memory`](rart_parts::TreeError::Memory) if the
     /// key is new and its insertion fails as that of [`insert_k`](Self::insert_k), with the value that `f` returned.
     /// The tree is then unchanged.
-    ///
-    /// # Examples
-    ///
-    /// ```ignore
-    /// let count = counts.get_or_insert_with_k(&key, || 0)?;
-    /// *count += 1;
-    /// ```
     pub fn get_or_insert_with_k<F: FnOnce() -> V>(
         &mut self,
         key: &K,

@@ -11,12 +11,6 @@ use rart_nodes::Visits;
 impl<K: KeyTrait, V> AdaptiveRadixTree<K, V> {
     /// Returns the longest string with which all keys begin that begin with `prefix`, or `None` if there is no such key.
     /// Makes the string as a key, allocates nothing.
-    ///
-    /// # Examples
-    ///
-    /// ```ignore
-    /// let completed = words.longest_common_prefix_k(&ArrayKey::new_from_slice(typed));
-    /// ```
     pub fn longest_common_prefix_k(&self, prefix: &K) -> Option<K>
         ensures { MatchOption result (below (K.bytes prefix.now) self.now.pairs ≡ [])
             (λ k. IsCommonPrefix (K.bytes k) (keys_of (below (K.bytes prefix.now) self.now.pairs))) }

@@ -8,12 +8,6 @@ use rart_nodes::Visits;
 
 impl<K: KeyTrait, V> AdaptiveRadixTree<K, V> {
     /// Returns the number of pairs whose key begins with `prefix`. Makes no key, allocates nothing.
-    ///
-    /// # Examples
-    ///
-    /// ```ignore
-    /// let variants = words.count_prefix_k(&ArrayKey::new_from_slice(b"cat"));
-    /// ```
     pub fn count_prefix_k(&self, prefix: &K) -> usize
         ensures { result ≡ length (below (K.bytes prefix.now) self.now.pairs) }
     {
