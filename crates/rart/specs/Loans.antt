@@ -37,8 +37,8 @@ abbrev pub lends_value : (K V P : RattleType) → KeyMembers K.Denot → partial
 lends_value K V P k p tree key lent = LendsSo (tree_row K V P k p) V tree lent
     (λ t w. OnSome lent ((t.pairs ≡ put key w tree.now.pairs) × (t.nodes ≡ tree.now.nodes))) (λ t. t ≡ tree.now)
 
--- the value at a key was borrowed from the tree, after an insertion if the key was new: the tree ends with what was left
--- at that key; if the insertion was refused, it is unchanged
+-- the value at a key was borrowed from the tree, after an insertion if the key was new: the tree ends with what was
+-- written at that key; if the insertion was refused, it is unchanged
 abbrev pub lends_put : {E : Type 0} → (K V P : RattleType) → KeyMembers K.Denot → partials.Ghosts P.Denot
     → MutBor (MapAndShape V.Denot) → List ℕ → Result (MutBor V.Denot) E → Fml
 lends_put K V P k p tree key lent = LendsSoOk (tree_row K V P k p) V tree lent

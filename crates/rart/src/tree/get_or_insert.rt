@@ -15,7 +15,7 @@ use rart_nodes::{NotInserted, Refused};
 
 impl<K: KeyTrait, V> AdaptiveRadixTree<K, V> {
     /// Returns a mutable reference to the value at `key`. If the key is new, `f` is called once, and what it returns is
-    /// inserted first. A stored key calls and allocates nothing.
+    /// inserted first. If the key is stored, `f` is not called and nothing is allocated.
     ///
     /// After the borrow ends, only the value at `key` can have changed.
     ///

@@ -9,8 +9,8 @@ use rart_keys::KeyTrait;
 use rart_nodes::Visits;
 
 impl<K: KeyTrait, V> AdaptiveRadixTree<K, V> {
-    /// Returns the longest string with which all keys begin that begin with `prefix`, or `None` if there is no such key.
-    /// Makes the string as a key, allocates nothing.
+    /// Returns the longest common prefix of the keys that begin with `prefix`, or `None` if there are none. Makes that
+    /// prefix as a key, allocates nothing.
     pub fn longest_common_prefix_k(&self, prefix: &K) -> Option<K>
         ensures { MatchOption result (below (K.bytes prefix.now) self.now.pairs ≡ [])
             (λ k. IsCommonPrefix (K.bytes k) (keys_of (below (K.bytes prefix.now) self.now.pairs))) }
@@ -18,7 +18,7 @@ impl<K: KeyTrait, V> AdaptiveRadixTree<K, V> {
         self.longest_common_prefix_bytes(prefix.as_ref())
     }
 
-    /// Returns the longest string with which all keys begin that begin with `prefix`, as
+    /// Returns the longest common prefix of the keys that begin with `prefix`, as
     /// [`longest_common_prefix_k`](Self::longest_common_prefix_k).
     pub fn longest_common_prefix(&self, prefix: K) -> Option<K>
     where
@@ -29,8 +29,8 @@ impl<K: KeyTrait, V> AdaptiveRadixTree<K, V> {
         self.longest_common_prefix_k(&prefix)
     }
 
-    /// Returns the longest string with which all keys begin that begin with the bytes `prefix`, which may be longer than
-    /// any key: then there is none. Makes the string as a key, allocates nothing.
+    /// Returns the longest common prefix of the keys that begin with the bytes `prefix`, or `None` if there are none.
+    /// `prefix` may be longer than any key. Makes that prefix as a key, allocates nothing.
     pub fn longest_common_prefix_bytes(&self, prefix: &[u8]) -> Option<K>
         ensures { MatchOption result (below prefix.now self.now.pairs ≡ [])
             (λ k. IsCommonPrefix (K.bytes k) (keys_of (below prefix.now self.now.pairs))) }

@@ -23,8 +23,8 @@ impl<K: KeyTrait, V> AdaptiveRadixTree<K, V> {
         self.count_prefix_k(&prefix)
     }
 
-    /// Returns the number of pairs whose key begins with the bytes `prefix`, which may be longer than any key: then
-    /// there is none. Makes no key, allocates nothing.
+    /// Returns the number of pairs whose key begins with the bytes `prefix`, which may be longer than any key: it is
+    /// then 0. Makes no key, allocates nothing.
     pub fn count_prefix_bytes(&self, prefix: &[u8]) -> usize
         ensures { result ≡ length (below prefix.now self.now.pairs) }
     {

@@ -1,6 +1,6 @@
 -- The prefix of a node is the longest string with which its keys begin.
-use Rattle.std.proofs.Common.{◌≡◌, ℕ, ◌+◌, ◌<◌, ◌≤◌, ⊎_elim, length, length-append, arith, List, [], ◌∷◌, ◌++◌, true, refl}
-use Rattle.std.proofs.Common.{ap, Some, None}
+use Rattle.std.proofs.Common.{◌≡◌, ℕ, ◌+◌, ◌<◌, ◌≤◌, ⊎_elim, length, length-append, arith, List, [], ◌∷◌, ◌++◌}
+use Rattle.std.proofs.Common.{true, refl, ap, Some, None}
 use Rattle.rart_keys.specs.ByteStrings.{begins}
 use Rattle.rart_keys.specs.Filters.{below}
 use Rattle.rart_keys.specs.SortedMap.{keys_of, longest_key}

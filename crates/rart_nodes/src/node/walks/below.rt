@@ -23,8 +23,8 @@ use std::alloc::AllocError;
 
 mod from_back;
 
-/// Visits the node at or below `prefix`, and returns it with the number of bytes of `prefix` that lead to it. The path is
-/// the one to it, without its own prefix.
+/// Visits the node at or below `prefix`, and returns it with the number of bytes of `prefix` before its own prefix. The
+/// path is the one to it, without its own prefix.
 pub(super) fn seek_prefix<'a, P: Partial, V, C: Count, T: Path<'a, P>>(
     top: Option<Shared<'a, P, V, C>>,
     prefix: &[u8],

@@ -25,5 +25,9 @@ returns g c =
             ∙ c.sorted_map.ensures.put_twice k held.0 w old c.canonical.ensures.ascending),
         tt,
       ),
-      record { writes_back = tt; value = subst (UnwrapsOrElse (lookup k old) (g.F.FnOnce.post c.args.f tt)) same held.1; refused = tt },
+      record {
+        writes_back = tt;
+        value = subst (UnwrapsOrElse (lookup k old) (g.F.FnOnce.post c.args.f tt)) same held.1;
+        refused = tt;
+      },
     )
