@@ -55,5 +55,5 @@ module _ {V : Type 0} where
   RemovesPrefix prefix old new (Err error) = MayRefuseTakePrefix old prefix error × (new ≡ old)
 
   -- the key has a value now: the stored one, if it was stored, and else one of which New holds
-  abbrev pub HoldsPair : List ℕ → (V → Type 0) → List (List ℕ × V) → List (List ℕ × V) → Type 0
-  HoldsPair key New old new = (value : V) × UnwrapsOrElse (lookup key old) New value × (new ≡ put key value old)
+  abbrev pub PutsIfNew : List ℕ → (V → Type 0) → List (List ℕ × V) → List (List ℕ × V) → Type 0
+  PutsIfNew key New old new = (value : V) × UnwrapsOrElse (lookup key old) New value × (new ≡ put key value old)

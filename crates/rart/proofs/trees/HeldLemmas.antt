@@ -3,7 +3,7 @@ use Rattle.std.proofs.Common.{◌≡◌, ℕ, List, true, refl, sym, ◌∙◌, 
 use Rattle.std.specs.Prelude.{◌≢◌, is_some}
 use Rattle.std.specs.Option.{UnwrapsOrElse, unwrap_or}
 use Rattle.rart_keys.specs.SortedMap.{lookup, put}
-use Rattle.rart.specs.Edits.{HoldsPair}
+use Rattle.rart.specs.Edits.{PutsIfNew}
 
 module _ {V : Type 0} where
   is-stored : (o : Option V) → is_some o ≡ true → o ≢ None
@@ -18,11 +18,11 @@ module _ {V : Type 0} where
 
   -- a stored key keeps its value in an unchanged map
   pub held-stored : (k : List ℕ) (New : V → Type 0) (es ds : List (List ℕ × V))
-      → ((v : V) → lookup k es ≡ Some v → put k v es ≡ es) → lookup k es ≢ None → ds ≡ es → HoldsPair k New es ds
+      → ((v : V) → lookup k es ≡ Some v → put k v es ≡ es) → lookup k es ≢ None → ds ≡ es → PutsIfNew k New es ds
   held-stored k New es ds same n e = held-found k New es ds (lookup k es) same n e
 
   pub held-contained : (k : List ℕ) (New : V → Type 0) (es : List (List ℕ × V))
-      → ((v : V) → lookup k es ≡ Some v → put k v es ≡ es) → is_some (lookup k es) ≡ true → HoldsPair k New es es
+      → ((v : V) → lookup k es ≡ Some v → put k v es ≡ es) → is_some (lookup k es) ≡ true → PutsIfNew k New es es
   held-contained k New es same h = held-stored k New es es same (is-stored (lookup k es) h) refl
 
   -- the value of a key that gets this one if it is new

@@ -3,7 +3,7 @@ ghost use Rattle.std.specs.Prelude.{◌≡◌, None, IfErr, IfOk, OnErr, OnOk};
 ghost use Rattle.std.specs.Borrow.{sem};
 ghost use Rattle.std.specs.Option.{UnwrapsOrElse, unwrap_or};
 ghost use Rattle.rart_keys.specs.SortedMap.{lookup};
-ghost use Rattle.rart.specs.Edits.{HoldsPair};
+ghost use Rattle.rart.specs.Edits.{PutsIfNew};
 ghost use Rattle.rart.specs.Loans.{lends_put};
 ghost use Rattle.rart.specs.Refusals.{MayRefuseInsert};
 
@@ -124,7 +124,7 @@ impl<K: KeyTrait, V> AdaptiveRadixTree<K, V> {
     // Inserts what `f` returns at `key` if the key is new.
     fn hold_with<F: FnOnce() -> V>(&mut self, key: &K, f: F) -> Result<(), Refused<V>>
         requires callable { lookup (K.bytes key.now) self.old.pairs ≡ None → F.pre f }
-        ensures held { OnOk result (HoldsPair (K.bytes key.now) (F.post f) self.old.pairs
+        ensures held { OnOk result (PutsIfNew (K.bytes key.now) (F.post f) self.old.pairs
             self.new.pairs) }
         ensures refused { IfErr result (λ r. F.post f r.value
             × MayRefuseInsert self.old.pairs (K.bytes key.now) r.error) }
@@ -146,7 +146,7 @@ impl<K: KeyTrait, V> AdaptiveRadixTree<K, V> {
     fn hold(&mut self, key: &K, value: V) -> Result<(), Refused<V>>
     where
         V: Drop,
-        ensures held { OnOk result (HoldsPair (K.bytes key.now) (λ v. v ≡ value) self.old.pairs
+        ensures held { OnOk result (PutsIfNew (K.bytes key.now) (λ v. v ≡ value) self.old.pairs
             self.new.pairs) }
         ensures refused { IfErr result (λ r. (r.value ≡ value)
             × MayRefuseInsert self.old.pairs (K.bytes key.now) r.error) }
