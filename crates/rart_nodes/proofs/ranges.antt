@@ -2,9 +2,11 @@ pub mod BackVisits
 pub mod BoundDescents
 pub mod BoundSteps
 pub mod ComparedEntries
+pub mod CountedBounds
 pub mod DownLemmas
 pub mod EndPaths
 pub mod LevelLemmas
+pub mod LongBounds
 pub mod NearestLemmas
 pub mod NearestPlaces
 pub mod PotentialLemmas

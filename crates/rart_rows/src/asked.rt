@@ -2,7 +2,7 @@
 
 use crate::form::Form;
 use crate::row::{Args, Row};
-use crate::words::{bound_of, key_of, same_key};
+use crate::words::{bound_of, bytes_bound, key_of, same_key};
 use rart::KeyTrait;
 use std::ops::Bound;
 
@@ -50,5 +50,15 @@ impl<'a, K: KeyTrait + Drop> Asked<'a, K> {
 
     pub fn end(&self) -> Bound<K> {
         bound_of(&self.end_key, self.row.args.end)
+    }
+
+    /// The start by its bytes, which need not be a key.
+    pub fn start_bytes(&self) -> Bound<&'a [u8]> {
+        bytes_bound(self.row.args.probe.as_slice(), self.row.args.start)
+    }
+
+    /// The end by its bytes, which need not be a key.
+    pub fn end_bytes(&self) -> Bound<&'a [u8]> {
+        bytes_bound(self.row.args.end_probe.as_slice(), self.row.args.end)
     }
 }

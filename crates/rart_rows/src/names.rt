@@ -4,6 +4,7 @@
 #[derive(Clone, Copy)]
 pub enum Call {
     Look(Look),
+    Count(Count),
     Probe(Probe),
     Whole(Whole),
     Insertion(Insertion),
@@ -38,6 +39,13 @@ pub enum Look {
     FirstAfter,
     LastAtOrBefore,
     LastBefore,
+}
+
+/// Counts of the pairs within two bounds.
+#[derive(Clone, Copy)]
+pub enum Count {
+    CountRange,
+    CountRangeBytes,
 }
 
 /// Look-ups of bytes that need not be a key.
@@ -138,6 +146,8 @@ pub enum Pairs {
     IterDescending,
     PrefixIterDescending,
     RangeDescending,
+    RangeBytes,
+    RangeDescendingBytes,
 }
 
 /// Iterators from both ends.
@@ -147,6 +157,7 @@ pub enum Turns {
     ValuesIterBothEnds,
     PrefixIterBothEnds,
     RangeBothEnds,
+    RangeBothEndsBytes,
 }
 
 /// Walks with a callback.
@@ -169,6 +180,8 @@ pub enum Views {
     TryForEachView,
     TryPrefixForEachView,
     TryForEachRangeView,
+    ForEachRangeViewBytes,
+    TryForEachRangeViewBytes,
 }
 
 /// Runs of calls on keys that differ in their last byte.

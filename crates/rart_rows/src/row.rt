@@ -40,8 +40,10 @@ pub struct Args<'a> {
     pub key: Bytes,
     /// The key of the second bound.
     pub end_key: Bytes,
-    /// Bytes that need not be a key.
+    /// Bytes that need not be a key, or those of the first bound.
     pub probe: Bytes,
+    /// The bytes of the second bound.
+    pub end_probe: Bytes,
     pub start: End,
     pub end: End,
     pub value: u64,
@@ -70,6 +72,7 @@ fn no_args<'a>() -> Args<'a> {
         key: Bytes::new(),
         end_key: Bytes::new(),
         probe: Bytes::new(),
+        end_probe: Bytes::new(),
         start: End::Open,
         end: End::Open,
         value: 0,
@@ -82,18 +85,29 @@ fn no_args<'a>() -> Args<'a> {
     }
 }
 
+// Reads a start whose bytes need not be a key.
 fn read_start<'a>(words: &mut Words<'a>, args: &mut Args<'a>) {
     args.start = words.end();
     if !matches!(args.start, End::Open) {
-        args.key = words.bytes();
+        args.probe = words.bytes();
     }
 }
 
 fn read_end<'a>(words: &mut Words<'a>, args: &mut Args<'a>) {
     args.end = words.end();
     if !matches!(args.end, End::Open) {
-        args.end_key = words.bytes();
+        args.end_probe = words.bytes();
     }
+}
+
+fn read_start_key<'a>(words: &mut Words<'a>, args: &mut Args<'a>) {
+    read_start(words, args);
+    args.key = args.probe;
+}
+
+fn read_end_key<'a>(words: &mut Words<'a>, args: &mut Args<'a>) {
+    read_end(words, args);
+    args.end_key = args.end_probe;
 }
 
 // Reads turns at both ends.
@@ -114,8 +128,10 @@ fn read_arg<'a>(words: &mut Words<'a>, letter: u8, args: &mut Args<'a>) {
         b'b' => args.probe = words.bytes(),
         b'v' => args.value = words.number(),
         b'w' => args.to = words.number(),
-        b's' => read_start(words, args),
-        b'e' => read_end(words, args),
+        b's' => read_start_key(words, args),
+        b'e' => read_end_key(words, args),
+        b'S' => read_start(words, args),
+        b'E' => read_end(words, args),
         b't' => args.turns = read_turns(words),
         b'i' => args.items = words.all(),
         b'u' => args.request = Request::read(words),

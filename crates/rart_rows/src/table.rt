@@ -1,7 +1,7 @@
 //! The names of the calls.
 
 use crate::names::{
-    Both, Call, Callback, Group, Insertion, Load, Look, Many, Pairs, Probe, Reach, Removal, Route,
+    Both, Call, Callback, Count, Group, Insertion, Load, Look, Many, Pairs, Probe, Reach, Removal, Route,
     TableChange, TableEdit, TableRead, Tables, Turns, Values, Views, Whole,
 };
 
@@ -9,7 +9,7 @@ use crate::names::{
 pub type Entry = (&'static str, Call, &'static str);
 
 // Where two names are one call, the second is the word of the program `rart_script`.
-static NAMES: [Entry; 87] = [
+static NAMES: [Entry; 94] = [
     ("get", Call::Look(Look::Get), "k"),
     ("contains_key", Call::Look(Look::ContainsKey), "k"),
     (
@@ -33,6 +33,12 @@ static NAMES: [Entry; 87] = [
     ("first_after", Call::Look(Look::FirstAfter), "k"),
     ("last_at_or_before", Call::Look(Look::LastAtOrBefore), "k"),
     ("last_before", Call::Look(Look::LastBefore), "k"),
+    ("count_range", Call::Count(Count::CountRange), "se"),
+    (
+        "count_range_bytes",
+        Call::Count(Count::CountRangeBytes),
+        "SE",
+    ),
     ("get_bytes", Call::Probe(Probe::GetBytes), "b"),
     (
         "contains_key_bytes",
@@ -147,6 +153,12 @@ static NAMES: [Entry; 87] = [
         "k",
     ),
     ("range", Call::Pairs(Pairs::Range), "se"),
+    ("range_bytes", Call::Pairs(Pairs::RangeBytes), "SE"),
+    (
+        "range_descending_bytes",
+        Call::Pairs(Pairs::RangeDescendingBytes),
+        "SE",
+    ),
     ("iter_descending", Call::Pairs(Pairs::IterDescending), ""),
     (
         "prefix_iter_descending",
@@ -170,6 +182,11 @@ static NAMES: [Entry; 87] = [
         "kt",
     ),
     ("range_both_ends", Call::Turns(Turns::RangeBothEnds), "set"),
+    (
+        "range_both_ends_bytes",
+        Call::Turns(Turns::RangeBothEndsBytes),
+        "SEt",
+    ),
     (
         "prefix_match_for_each",
         Call::Callback(Callback::PrefixMatchForEach),
@@ -221,6 +238,16 @@ static NAMES: [Entry; 87] = [
         "try_for_each_range_view",
         Call::Views(Views::TryForEachRangeView),
         "sec",
+    ),
+    (
+        "for_each_range_view_bytes",
+        Call::Views(Views::ForEachRangeViewBytes),
+        "SE",
+    ),
+    (
+        "try_for_each_range_view_bytes",
+        Call::Views(Views::TryForEachRangeViewBytes),
+        "SEc",
     ),
     ("fill", Call::Group(Group::Fill), "bvw"),
     ("empty_out", Call::Group(Group::EmptyOut), "bvw"),

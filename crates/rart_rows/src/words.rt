@@ -86,6 +86,15 @@ pub fn bound_of<K: KeyTrait>(key: &K, end: End) -> Bound<K> {
     }
 }
 
+/// The bound of this kind at bytes.
+pub fn bytes_bound(bytes: &[u8], end: End) -> Bound<&[u8]> {
+    match end {
+        End::Open => Bound::Unbounded,
+        End::In => Bound::Included(bytes),
+        End::Out => Bound::Excluded(bytes),
+    }
+}
+
 /// The words of a line that were not read yet.
 #[derive(Clone, Copy)]
 pub struct Words<'a> {

@@ -7,7 +7,7 @@ use crate::calls::callbacks::call_back;
 use crate::calls::edits::{add_to_values, insert_at, remove_at};
 use crate::calls::groups::call_group;
 use crate::calls::loads::{are_read, load};
-use crate::calls::looks::{look, look_up_bytes, read_whole};
+use crate::calls::looks::{count_between, look, look_up_bytes, read_whole};
 use crate::calls::many::edit_many;
 use crate::calls::pairs::walk;
 use crate::calls::routes::{call_route, reach};
@@ -52,6 +52,7 @@ fn read<K: KeyTrait + Drop>(tree: &Tree<K>, asked: &Asked<'_, K>, answer: &mut A
     let (key, args, form) = (&asked.key, asked.args(), asked.form);
     match asked.row.call {
         Call::Look(name) => look(tree, key, name, form, answer),
+        Call::Count(name) => count_between(tree, asked, name, answer),
         Call::Probe(name) => look_up_bytes(tree, args.probe.as_slice(), name, answer),
         Call::Whole(name) => read_whole(tree, name, answer),
         Call::Pairs(name) => walk(tree, asked, name, answer),

@@ -2,6 +2,7 @@
 ghost use Rattle.std.specs.Prelude.{◌≡◌, IfErr, IfOk, reverse};
 ghost use Rattle.rart_keys.specs.Filters.{below};
 ghost use Rattle.rart_keys.specs.Ranges.{between, bound_in};
+ghost use Rattle.rart_nodes.specs.ranges.LentBounds.{lent_bound};
 ghost use Rattle.rart_nodes.specs.ranges.UpperBounds.{down_to};
 ghost use Rattle.rart_trie.specs.walks.Calls.{MayLackMemory};
 
@@ -70,5 +71,22 @@ impl<K: KeyTrait + Drop, V> AdaptiveRadixTree<K, V> {
         ensures memory { IfErr result (MayLackMemory self.now.pairs) }
     {
         self.seen().range_descending(start, end)
+    }
+    /// Returns an iterator over the pairs within two bounds, whose bytes may be more than any key has, descending by
+    /// key, as [`range_descending`](Self::range_descending).
+    ///
+    /// # Errors
+    ///
+    /// [`TreeError::Memory`] if the tree isn't empty and the allocation fails.
+    pub fn range_descending_bytes(
+        &self,
+        start: Bound<&[u8]>,
+        end: Bound<&[u8]>,
+    ) -> Result<RangeDescending<'_, K, V>, TreeError>
+        ensures pairs { IfOk result (λ r. down_to r.0 r.1
+            ≡ reverse (between (lent_bound start.entry) (lent_bound end.entry) self.now.pairs)) }
+        ensures memory { IfErr result (MayLackMemory self.now.pairs) }
+    {
+        self.seen().range_descending_bytes(start, end)
     }
 }

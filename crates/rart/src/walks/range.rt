@@ -1,6 +1,7 @@
 //! The pairs of a tree within two bounds, ascending by key.
 ghost use Rattle.std.specs.Prelude.{◌≡◌, IfErr, IfOk};
 ghost use Rattle.rart_keys.specs.Ranges.{between, bound_in, up_to};
+ghost use Rattle.rart_nodes.specs.ranges.LentBounds.{lent_bound};
 ghost use Rattle.rart_trie.specs.walks.Calls.{MayLackMemory};
 
 use crate::tree::AdaptiveRadixTree;
@@ -30,5 +31,22 @@ impl<K: KeyTrait + Drop, V> AdaptiveRadixTree<K, V> {
         ensures memory { IfErr result (MayLackMemory self.now.pairs) }
     {
         self.seen().range(start, end)
+    }
+    /// Returns an iterator over the pairs within two bounds, whose bytes may be more than any key has, as
+    /// [`range`](Self::range).
+    ///
+    /// # Errors
+    ///
+    /// [`TreeError::Memory`] if the tree isn't empty and the allocation fails.
+    pub fn range_bytes(
+        &self,
+        start: Bound<&[u8]>,
+        end: Bound<&[u8]>,
+    ) -> Result<Range<'_, K, V>, TreeError>
+        ensures pairs { IfOk result (λ r. up_to r.0 r.1
+            ≡ between (lent_bound start.entry) (lent_bound end.entry) self.now.pairs) }
+        ensures memory { IfErr result (MayLackMemory self.now.pairs) }
+    {
+        self.seen().range_bytes(start, end)
     }
 }

@@ -23,3 +23,12 @@ span_bound a b es = length (bound_bytes a) + 1 + 2 * length (between a b es) + h
 -- the path to a prefix, two nodes for each of n calls, and the tree's height
 abbrev pub call_visits : {V : Type 0} → List ℕ → ℕ → List (List ℕ × V) → ℕ
 call_visits p n es = probe_count (keys_of es) p + 2 * n + height (keys_of es)
+
+-- what a count of the pairs between two bounds visits: the paths to both, and two nodes for each pair
+abbrev pub count_visits : {V : Type 0} → Bound (List ℕ) → Bound (List ℕ) → List (List ℕ × V) → ℕ
+count_visits a b es = probe_count (keys_of es) (bound_bytes a) + probe_count (keys_of es) (bound_bytes b)
+    + 2 * length (between a b es)
+
+-- at least as many: with the bytes of both in place of the branch points on their paths
+abbrev pub count_bound : {V : Type 0} → Bound (List ℕ) → Bound (List ℕ) → List (List ℕ × V) → ℕ
+count_bound a b es = length (bound_bytes a) + length (bound_bytes b) + 2 + 2 * length (between a b es)

@@ -5,10 +5,13 @@
 
 ghost use Rattle.std.specs.Iterator.{YieldsFirstBy, item_count};
 ghost use Rattle.std.specs.Ordering.{match_ordering};
-ghost use Rattle.std.specs.Prelude.{◌≡◌, ◌≤◌, ◌+◌, [], length, IfErr, IfOk, OnErr, true, false};
+ghost use Rattle.std.specs.Prelude.{◌≡◌, ◌≤◌, ◌+◌, ℕ, List, [], length, take, IfErr, IfOk, OnErr, true, false};
 ghost use Rattle.std.specs.declared.ops.Bound.TheVariants.{Unbounded};
 ghost use Rattle.rart_keys.specs.SortedMap.{IsAscending};
-ghost use Rattle.rart_keys.specs.Ranges.{between, bound_bytes, bound_in, is_inclusive, is_to, pairs_from, up_to};
+ghost use Rattle.rart_keys.specs.KeyBytes.{IsWithin};
+ghost use Rattle.rart_keys.specs.Ranges.{between, bound_bytes, bound_in, is_from, is_inclusive, is_to, pairs_from};
+ghost use Rattle.rart_keys.specs.Ranges.{up_to};
+ghost use Rattle.rart_nodes.specs.ranges.LentBounds.{lent_bound};
 ghost use Rattle.rart_trie.specs.ranges.Starts.{TakesUpTo, bytes_taken};
 ghost use Rattle.rart_nodes.specs.tries.SeenTrees.{seen_keys, seen_pairs};
 ghost use Rattle.rart_trie.specs.walks.ProbeCount.{probe_count};
@@ -46,15 +49,80 @@ fn is_within<K: KeyTrait>(key: &K, end: &Bound<K>) -> bool
     }
 }
 
+/// Returns a bound by the bytes of its key.
+pub(crate) fn slice_bound<K: KeyTrait>(bound: &Bound<K>) -> Bound<&[u8]>
+    ensures { lent_bound result ≡ bound_in K.bytes bound.now }
+{
+    match bound {
+        Bound::Included(key) => Bound::Included(key.as_ref()),
+        Bound::Excluded(key) => Bound::Excluded(key.as_ref()),
+        Bound::Unbounded => Bound::Unbounded,
+    }
+}
+
 /// Returns the bytes of a start and whether it is inclusive. Without a start, the bytes are empty.
-pub(crate) fn bytes_of<K: KeyTrait>(start: &Bound<K>) -> (&[u8], bool)
-    ensures bytes { result.0.now ≡ bound_bytes (bound_in K.bytes start.now) }
-    ensures inclusive { result.1 ≡ is_inclusive (bound_in K.bytes start.now) }
+pub(crate) fn bytes_of(start: Bound<&[u8]>) -> (&[u8], bool)
+    ensures bytes { result.0.now ≡ bound_bytes (lent_bound start.entry) }
+    ensures inclusive { result.1 ≡ is_inclusive (lent_bound start.entry) }
 {
     match start {
-        Bound::Included(key) => (key.as_ref(), true),
-        Bound::Excluded(key) => (key.as_ref(), false),
+        Bound::Included(bytes) => (bytes, true),
+        Bound::Excluded(bytes) => (bytes, false),
         Bound::Unbounded => (&[], true),
+    }
+}
+
+/// Returns the key of the first `longest` bytes.
+fn first_bytes<K: KeyTrait>(bytes: &[u8], longest: usize) -> K
+    requires { IsWithin K.MAXIMUM_SIZE longest }
+    ensures { K.bytes result ≡ take longest bytes.now }
+{
+    if bytes.len() <= longest {
+        K::new_from_slice(bytes)
+    } else {
+        K::new_from_slice(&bytes[..longest])
+    }
+}
+
+/// Returns an end of at most `longest` bytes. Each key of at most as many bytes is within both ends or within neither.
+// Such a key isn't the end itself if that is longer. It is then less than the end if it is at most its first bytes.
+fn short_end<K: KeyTrait>(end: Bound<&[u8]>, longest: usize) -> Bound<K>
+    requires { IsWithin K.MAXIMUM_SIZE longest }
+    ensures { (k : List ℕ) → length k ≤ longest
+        → is_to (bound_in K.bytes result) k ≡ is_to (lent_bound end.entry) k }
+{
+    match end {
+        Bound::Included(bytes) => Bound::Included(first_bytes(bytes, longest)),
+        Bound::Excluded(bytes) => {
+            let key = first_bytes(bytes, longest);
+            if bytes.len() <= longest {
+                Bound::Excluded(key)
+            } else {
+                Bound::Included(key)
+            }
+        }
+        Bound::Unbounded => Bound::Unbounded,
+    }
+}
+
+/// Returns a start of at most `longest` bytes. Each key of at most as many bytes is within both starts or within
+/// neither.
+pub(crate) fn short_start<K: KeyTrait>(start: Bound<&[u8]>, longest: usize) -> Bound<K>
+    requires { IsWithin K.MAXIMUM_SIZE longest }
+    ensures { (k : List ℕ) → length k ≤ longest
+        → is_from (bound_in K.bytes result) k ≡ is_from (lent_bound start.entry) k }
+{
+    match start {
+        Bound::Included(bytes) => {
+            let key = first_bytes(bytes, longest);
+            if bytes.len() <= longest {
+                Bound::Included(key)
+            } else {
+                Bound::Excluded(key)
+            }
+        }
+        Bound::Excluded(bytes) => Bound::Excluded(first_bytes(bytes, longest)),
+        Bound::Unbounded => Bound::Unbounded,
     }
 }
 
@@ -200,6 +268,34 @@ impl<'a, K: KeyTrait + Drop, V, C: Count> SeenRange<'a, K, V, C> {
 }
 
 impl<'a, K: KeyTrait + Drop, V, C: Count> Seen<'a, K, V, C> {
+    /// Returns the pairs from a start on, given by its bytes, to an end.
+    fn range_from(
+        self,
+        start: Bound<&[u8]>,
+        end: Bound<K>,
+        counter: &mut C,
+    ) -> Result<SeenRange<'a, K, V, C>, TreeError>
+        ensures pairs { IfOk result (λ r. up_to r.0 r.1
+            ≡ between (lent_bound start.entry) (bound_in K.bytes end) (seen_pairs self.entry)) }
+        ensures end { IfOk result (λ r. r.0 ≡ bound_in K.bytes end) }
+        ensures ahead { IfOk result (λ r. r.1 ≡ pairs_from (is_inclusive (lent_bound start.entry))
+            (bound_bytes (lent_bound start.entry)) (seen_pairs self.entry)) }
+        ensures memory { IfErr result (MayLackMemory (seen_pairs self.entry)) }
+        ensures unvisited { OnErr result (counter.new ≡ counter.old) }
+        ensures visits { IfOk result (λ _. C.number counter.new ≡ C.number counter.old
+            + probe_count (seen_keys self.entry) (bound_bytes (lent_bound start.entry))) }
+        ensures bound { C.number counter.new
+            ≤ C.number counter.old + length (bound_bytes (lent_bound start.entry)) + 1 }
+    {
+        let (bytes, included) = bytes_of(start);
+        let walk = self.key_walk_from(bytes, included, counter)?;
+        let pairs = BoundedWalk {
+            walk: WalkState::Active(walk),
+            end,
+        };
+        Ok(SeenRange { pairs })
+    }
+
     /// Returns the pairs within two bounds. It allocates as [`iter_counted`](Self::iter_counted) does.
     ///
     /// # Errors
@@ -228,13 +324,38 @@ impl<'a, K: KeyTrait + Drop, V, C: Count> Seen<'a, K, V, C> {
             ≤ C.number counter.old + length (bound_bytes (bound_in K.bytes start))
             + 1 }
     {
-        let (bytes, included) = bytes_of(&start);
-        let walk = self.key_walk_from(bytes, included, counter)?;
-        let pairs = BoundedWalk {
-            walk: WalkState::Active(walk),
-            end,
-        };
-        Ok(SeenRange { pairs })
+        self.range_from(slice_bound(&start), end, counter)
+    }
+
+    /// Returns the pairs within two bounds, whose bytes may be more than any key has. It allocates as
+    /// [`iter_counted`](Self::iter_counted) does.
+    ///
+    /// # Errors
+    ///
+    /// [`TreeError::Memory`] if the tree isn't empty and the allocation fails. Nothing is then visited.
+    ///
+    /// # Visits
+    ///
+    /// At most one node more than the start has bytes, and none in an empty tree.
+    pub fn range_bytes_counted(
+        self,
+        start: Bound<&[u8]>,
+        end: Bound<&[u8]>,
+        counter: &mut C,
+    ) -> Result<SeenRange<'a, K, V, C>, TreeError>
+        ensures pairs { IfOk result (λ r. up_to r.0 r.1
+            ≡ between (lent_bound start.entry) (lent_bound end.entry) (seen_pairs self.entry)) }
+        ensures ahead { IfOk result (λ r. r.1 ≡ pairs_from (is_inclusive (lent_bound start.entry))
+            (bound_bytes (lent_bound start.entry)) (seen_pairs self.entry)) }
+        ensures memory { IfErr result (MayLackMemory (seen_pairs self.entry)) }
+        ensures unvisited { OnErr result (counter.new ≡ counter.old) }
+        ensures visits { IfOk result (λ _. C.number counter.new ≡ C.number counter.old
+            + probe_count (seen_keys self.entry) (bound_bytes (lent_bound start.entry))) }
+        ensures bound { C.number counter.new
+            ≤ C.number counter.old + length (bound_bytes (lent_bound start.entry)) + 1 }
+    {
+        let end = short_end(end, self.longest());
+        self.range_from(start, end, counter)
     }
 }
 
@@ -250,6 +371,25 @@ impl<'a, K: KeyTrait + Drop, V> Seen<'a, K, V, Visits> {
         ensures memory { IfErr result (MayLackMemory (seen_pairs self.entry)) }
     {
         let pairs = self.range_counted(start, end, &mut Visits::new())?;
+        Ok(Range { pairs })
+    }
+
+    /// Returns the pairs within two bounds, whose bytes may be more than any key has. It allocates as
+    /// [`iter_counted`](Self::iter_counted) does.
+    ///
+    /// # Errors
+    ///
+    /// [`TreeError::Memory`] if the tree isn't empty and the allocation fails.
+    pub fn range_bytes(
+        self,
+        start: Bound<&[u8]>,
+        end: Bound<&[u8]>,
+    ) -> Result<Range<'a, K, V>, TreeError>
+        ensures pairs { IfOk result (λ r. up_to r.0 r.1
+            ≡ between (lent_bound start.entry) (lent_bound end.entry) (seen_pairs self.entry)) }
+        ensures memory { IfErr result (MayLackMemory (seen_pairs self.entry)) }
+    {
+        let pairs = self.range_bytes_counted(start, end, &mut Visits::new())?;
         Ok(Range { pairs })
     }
 }

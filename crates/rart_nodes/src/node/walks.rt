@@ -5,6 +5,7 @@ mod below;
 mod common_prefix;
 pub(crate) mod control;
 mod count_pairs;
+mod count_range;
 pub(crate) mod descending;
 mod fold;
 mod lending;

@@ -1,8 +1,9 @@
 //! Look-ups, and what is read of a whole tree.
 
 use crate::answer::Answer;
+use crate::asked::Asked;
 use crate::form::Form;
-use crate::names::{Look, Probe, Whole};
+use crate::names::{Count, Look, Probe, Whole};
 use crate::words::same_key;
 use crate::world::Tree;
 use rart::{KeyTrait, TreeError, TreeStats, TreeStatsTrait};
@@ -131,6 +132,28 @@ pub fn look<K: KeyTrait + Drop>(
         Look::LastAtOrBefore => last_until(tree, key, form, answer),
         Look::LastBefore => last_before(tree, key, form, answer),
     }
+}
+
+fn count_range<K: KeyTrait + Drop>(tree: &Tree<K>, asked: &Asked<'_, K>) -> usize {
+    if asked.form.gives_bytes() {
+        tree.count_range_bytes(asked.start_bytes(), asked.end_bytes())
+    } else {
+        tree.count_range(asked.start(), asked.end())
+    }
+}
+
+/// Counts the pairs within two bounds.
+pub fn count_between<K: KeyTrait + Drop>(
+    tree: &Tree<K>,
+    asked: &Asked<'_, K>,
+    count: Count,
+    answer: &mut Answer,
+) {
+    let count = match count {
+        Count::CountRange => count_range(tree, asked),
+        Count::CountRangeBytes => tree.count_range_bytes(asked.start_bytes(), asked.end_bytes()),
+    };
+    answer.count(count);
 }
 
 fn longest_len<K: KeyTrait>(tree: &Tree<K>, probe: &[u8], answer: &mut Answer) {

@@ -108,10 +108,28 @@ fn prefix_match_iter<K: KeyTrait + Drop>(
     put_matches(&mut pairs, answer);
 }
 
-fn range<K: KeyTrait + Drop>(tree: &Tree<K>, asked: &Asked<'_, K>, answer: &mut Answer) {
-    match tree.range(asked.start(), asked.end()) {
+fn put_range_or_refusal<K: KeyTrait + Drop>(
+    range: Result<Range<'_, K, u64>, TreeError>,
+    answer: &mut Answer,
+) {
+    match range {
         Ok(mut pairs) => put_range(&mut pairs, answer),
         Err(error) => answer.error(error),
+    }
+}
+
+fn range_bytes<K: KeyTrait + Drop>(tree: &Tree<K>, asked: &Asked<'_, K>, answer: &mut Answer) {
+    put_range_or_refusal(
+        tree.range_bytes(asked.start_bytes(), asked.end_bytes()),
+        answer,
+    );
+}
+
+fn range<K: KeyTrait + Drop>(tree: &Tree<K>, asked: &Asked<'_, K>, answer: &mut Answer) {
+    if asked.form.gives_bytes() {
+        range_bytes(tree, asked, answer);
+    } else {
+        put_range_or_refusal(tree.range(asked.start(), asked.end()), answer);
     }
 }
 
@@ -129,10 +147,32 @@ fn prefix_descending<K: KeyTrait + Drop>(tree: &Tree<K>, prefix: &K, answer: &mu
     }
 }
 
-fn range_descending<K: KeyTrait + Drop>(tree: &Tree<K>, asked: &Asked<'_, K>, answer: &mut Answer) {
-    match tree.range_descending(asked.start(), asked.end()) {
+fn put_descending_or_refusal<K: KeyTrait + Drop>(
+    range: Result<RangeDescending<'_, K, u64>, TreeError>,
+    answer: &mut Answer,
+) {
+    match range {
         Ok(mut pairs) => put_range_descending(&mut pairs, answer),
         Err(error) => answer.error(error),
+    }
+}
+
+fn range_descending_bytes<K: KeyTrait + Drop>(
+    tree: &Tree<K>,
+    asked: &Asked<'_, K>,
+    answer: &mut Answer,
+) {
+    put_descending_or_refusal(
+        tree.range_descending_bytes(asked.start_bytes(), asked.end_bytes()),
+        answer,
+    );
+}
+
+fn range_descending<K: KeyTrait + Drop>(tree: &Tree<K>, asked: &Asked<'_, K>, answer: &mut Answer) {
+    if asked.form.gives_bytes() {
+        range_descending_bytes(tree, asked, answer);
+    } else {
+        put_descending_or_refusal(tree.range_descending(asked.start(), asked.end()), answer);
     }
 }
 
@@ -152,5 +192,7 @@ pub fn walk<K: KeyTrait + Drop>(
         Pairs::IterDescending => iter_descending(tree, answer),
         Pairs::PrefixIterDescending => prefix_descending(tree, &asked.key, answer),
         Pairs::RangeDescending => range_descending(tree, asked, answer),
+        Pairs::RangeBytes => range_bytes(tree, asked, answer),
+        Pairs::RangeDescendingBytes => range_descending_bytes(tree, asked, answer),
     }
 }

@@ -100,6 +100,30 @@ fn put_part<K: KeyTrait + Drop>(
     }
 }
 
+fn range_bytes_by_turns<K: KeyTrait + Drop>(
+    tree: &Tree<K>,
+    asked: &Asked<'_, K>,
+    answer: &mut Answer,
+) {
+    put_part(
+        tree.range_both_ends_bytes(asked.start_bytes(), asked.end_bytes()),
+        asked.args().turns,
+        answer,
+    );
+}
+
+fn range_by_turns<K: KeyTrait + Drop>(tree: &Tree<K>, asked: &Asked<'_, K>, answer: &mut Answer) {
+    if asked.form.gives_bytes() {
+        range_bytes_by_turns(tree, asked, answer);
+    } else {
+        put_part(
+            tree.range_both_ends(asked.start(), asked.end()),
+            asked.args().turns,
+            answer,
+        );
+    }
+}
+
 fn values_by_turns<K: KeyTrait + Drop>(tree: &Tree<K>, turns: &[u8], answer: &mut Answer) {
     match tree.values_iter_both_ends() {
         Ok(mut values) => put_values_by_turns(&mut values, turns, answer),
@@ -121,12 +145,7 @@ pub fn walk_by_turns<K: KeyTrait + Drop>(
         Turns::PrefixIterBothEnds => {
             put_part(tree.prefix_iter_both_ends_k(&asked.key), turns, answer);
         }
-        Turns::RangeBothEnds => {
-            put_part(
-                tree.range_both_ends(asked.start(), asked.end()),
-                turns,
-                answer,
-            );
-        }
+        Turns::RangeBothEnds => range_by_turns(tree, asked, answer),
+        Turns::RangeBothEndsBytes => range_bytes_by_turns(tree, asked, answer),
     }
 }

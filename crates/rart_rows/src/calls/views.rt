@@ -37,11 +37,28 @@ fn prefix_views<K: KeyTrait + Drop>(
     }
 }
 
+fn range_views_bytes<K: KeyTrait + Drop>(
+    tree: &Tree<K>,
+    asked: &Asked<'_, K>,
+    answer: &mut Answer,
+) -> Result<(), TreeError> {
+    let (start, end) = (asked.start_bytes(), asked.end_bytes());
+    let mut show = |view: LendingKeyView<'_, '_>, value: &u64| answer.view(view, *value);
+    if asked.form.lends() {
+        tree.for_each_range_view_by_ref_bytes(start, end, &mut show)
+    } else {
+        tree.for_each_range_view_bytes(start, end, show)
+    }
+}
+
 fn range_views<K: KeyTrait + Drop>(
     tree: &Tree<K>,
     asked: &Asked<'_, K>,
     answer: &mut Answer,
 ) -> Result<(), TreeError> {
+    if asked.form.gives_bytes() {
+        return range_views_bytes(tree, asked, answer);
+    }
     let (start, end) = (asked.start(), asked.end());
     let mut show = |view: LendingKeyView<'_, '_>, value: &u64| answer.view(view, *value);
     if asked.form.lends() {
@@ -115,11 +132,34 @@ fn try_prefix_views<K: KeyTrait + Drop>(
     }
 }
 
+fn try_range_views_bytes<K: KeyTrait + Drop>(
+    tree: &Tree<K>,
+    asked: &Asked<'_, K>,
+    answer: &mut Answer,
+) -> Result<(), VisitError<u64>> {
+    let (start, end) = (asked.start_bytes(), asked.end_bytes());
+    let walk = asked.args().walk;
+    let mut call = 0_u64;
+    let mut show = |view: LendingKeyView<'_, '_>, value: &u64| {
+        call = call.wrapping_add(1);
+        answer.view(view, *value);
+        control(walk, call)
+    };
+    if asked.form.lends() {
+        tree.try_for_each_range_view_by_ref_bytes(start, end, &mut show)
+    } else {
+        tree.try_for_each_range_view_bytes(start, end, show)
+    }
+}
+
 fn try_range_views<K: KeyTrait + Drop>(
     tree: &Tree<K>,
     asked: &Asked<'_, K>,
     answer: &mut Answer,
 ) -> Result<(), VisitError<u64>> {
+    if asked.form.gives_bytes() {
+        return try_range_views_bytes(tree, asked, answer);
+    }
     let (start, end) = (asked.start(), asked.end());
     let walk = asked.args().walk;
     let mut call = 0_u64;
@@ -169,6 +209,14 @@ pub fn view<K: KeyTrait + Drop>(
         }
         Views::TryForEachRangeView => {
             let tried = try_range_views(tree, asked, answer);
+            put_tried(tried, answer);
+        }
+        Views::ForEachRangeViewBytes => {
+            let walked = range_views_bytes(tree, asked, answer);
+            put_walked(walked, answer);
+        }
+        Views::TryForEachRangeViewBytes => {
+            let tried = try_range_views_bytes(tree, asked, answer);
             put_tried(tried, answer);
         }
     }

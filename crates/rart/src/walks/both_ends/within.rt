@@ -8,6 +8,7 @@ ghost use Rattle.std.specs.Prelude.{◌≡◌, [], ◌∷◌, reverse, IfErr, If
 ghost use Rattle.rart_keys.specs.Filters.{below};
 ghost use Rattle.rart_keys.specs.Ranges.{between, bound_in, up_to};
 ghost use Rattle.rart_keys.specs.SortedMap.{IsAscending};
+ghost use Rattle.rart_nodes.specs.ranges.LentBounds.{lent_bound};
 ghost use Rattle.rart_trie.specs.walks.Calls.{MayLackMemory};
 
 use crate::tree::AdaptiveRadixTree;
@@ -226,6 +227,31 @@ impl<K: KeyTrait + Drop, V> AdaptiveRadixTree<K, V> {
         self.canonical();
         let back = self.range_descending(copied_bound(&start), copied_bound(&end))?;
         let front = self.range(start, end)?;
+        Ok(BothEndsWithin::of(
+            front,
+            Back {
+                walk: BackWalk::Bounds(back),
+            },
+        ))
+    }
+    /// Returns an iterator from both ends over the pairs within two bounds, whose bytes may be more than any key has, as
+    /// [`range_both_ends`](Self::range_both_ends).
+    ///
+    /// # Errors
+    ///
+    /// [`TreeError::Memory`] if the tree isn't empty and an allocation fails.
+    pub fn range_both_ends_bytes(
+        &self,
+        start: Bound<&[u8]>,
+        end: Bound<&[u8]>,
+    ) -> Result<BothEndsWithin<'_, K, V>, TreeError>
+        ensures pairs { IfOk result (λ it. it
+            ≡ between (lent_bound start.entry) (lent_bound end.entry) self.now.pairs) }
+        ensures memory { IfErr result (MayLackMemory self.now.pairs) }
+    {
+        self.canonical();
+        let back = self.range_descending_bytes(start, end)?;
+        let front = self.range_bytes(start, end)?;
         Ok(BothEndsWithin::of(
             front,
             Back {

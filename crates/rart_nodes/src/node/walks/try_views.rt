@@ -3,7 +3,8 @@
 // One loop serves them all: a walk without bounds is one that has no end.
 
 ghost use Rattle.std.specs.Prelude.{◌≡◌, ◌≤◌, ◌+◌, ◌*◌, ℕ, [], length, reverse, vec_capacity, IfErr};
-ghost use Rattle.rart_keys.specs.Ranges.{bound_bytes, bound_in, is_to};
+ghost use Rattle.rart_keys.specs.Ranges.{bound_bytes, bound_in};
+ghost use Rattle.rart_nodes.specs.ranges.LentBounds.{lent_bound};
 ghost use Rattle.rart_nodes.specs.ranges.Potential.{AreLow};
 ghost use Rattle.rart_nodes.specs.ranges.Spans.{call_visits, cut_between, span_bound, span_visits};
 ghost use Rattle.rart_nodes.specs.tries.SeenTrees.{seen_keys, seen_pairs};
@@ -17,40 +18,17 @@ ghost use Rattle.rart_trie.specs.ranges.Starts.{entries_to};
 ghost use Rattle.rart_trie.specs.walks.BelowPrefix.{below_bound, below_visits, cut_below};
 ghost use Rattle.rart_trie.specs.walks.Cut.{cut_pairs};
 ghost use Rattle.rart_trie.specs.walks.ProbeCount.{probe_count};
-ghost use Rattle.rart_trie.specs.walks.Walk.{joined_bytes};
 
-use crate::node::range::{bytes_of, is_before};
+use crate::node::range::{bytes_of, slice_bound};
 use crate::node::seen::Seen;
 use crate::node::view::LendingKeyView;
 use crate::node::walk::Walk;
 use crate::node::walk::path::SegmentPath;
 use crate::node::walks::control::{VisitControl, VisitError};
+use crate::node::walks::range_views::is_up_to;
 use rart_keys::{KeyTrait, Partial};
 use rart_trie::Count;
 use std::ops::Bound;
-
-/// Returns an end by the bytes of its key.
-fn end_bytes<K: KeyTrait>(end: &Bound<K>) -> Bound<&[u8]>
-    ensures { bound_in (λ b. b.now) result ≡ bound_in K.bytes end.now }
-{
-    match end {
-        Bound::Included(key) => Bound::Included(key.as_ref()),
-        Bound::Excluded(key) => Bound::Excluded(key.as_ref()),
-        Bound::Unbounded => Bound::Unbounded,
-    }
-}
-
-/// Returns whether a lent key is within an end.
-fn is_up_to(view: LendingKeyView<'_, '_>, end: Bound<&[u8]>) -> bool
-    ensures { result ≡ is_to (bound_in (λ b. b.now) end.entry)
-        (joined_bytes (lent_segments view.entry.segments.now)) }
-{
-    match end {
-        Bound::Included(end) => is_before(view.cmp_slice(end), true),
-        Bound::Excluded(end) => is_before(view.cmp_slice(end), false),
-        Bound::Unbounded => true,
-    }
-}
 
 fn try_for_each_view_to<
     'a,
@@ -66,17 +44,17 @@ fn try_for_each_view_to<
     counter: &mut C,
     f: &mut F,
 ) -> Result<(), E>
-    requires callable { CanTryView F.FnMut f.old (entries_to (bound_in (λ b. b.now) end)
+    requires callable { CanTryView F.FnMut f.old (entries_to (lent_bound end)
         (walk_views path.old.segments.items walk.old)) }
     requires path { IsWalkAt walk.old (lent_segments path.old.segments.items) }
     requires reserved { walk.old.longest ≤ vec_capacity path.old.segments }
     requires views { AreViews (walk_views path.old.segments.items walk.old) }
     ensures stays_callable { F.IsAlwaysCallable f.old → F.IsAlwaysCallable f.new }
-    ensures calls { EndsViews F.FnMut f.old (entries_to (bound_in (λ b. b.now) end.entry)
+    ensures calls { EndsViews F.FnMut f.old (entries_to (lent_bound end.entry)
         (walk_views path.old.segments.items walk.old)) result f.new }
     ensures visits { C.number counter.new ≤ C.number counter.old + walk_nodes walk.old }
     ensures by_calls { (h : ℕ) → AreLow h (reverse walk.old.levels.items) →
-        (n : ℕ) × (EndsViewsAfter F.FnMut f.old (entries_to (bound_in (λ b. b.now) end.entry)
+        (n : ℕ) × (EndsViewsAfter F.FnMut f.old (entries_to (lent_bound end.entry)
         (walk_views path.old.segments.items walk.old)) n result f.new
         × (C.number counter.new ≤ C.number counter.old + 2 * n + h)) }
 {
@@ -275,6 +253,90 @@ impl<'a, K: KeyTrait, V, C: Count> Seen<'a, K, V, C> {
     {
         self.try_for_each_view_by_ref_counted(&mut f, counter)
     }
+
+    /// Calls `f` with each pair between two bounds, whose bytes may be more than any key has, in order, and with a view
+    /// of its key, cut at the branch points; with none if the end is before the start. `Stop` ends the walk with
+    /// `Ok(())`; an `Err(e)` of the callback ends it with [`VisitError::Callback`]. `f` must be callable with each of
+    /// these in turn for as long as it returns `Continue`. The caller keeps `f`.
+    ///
+    /// # Errors
+    ///
+    /// [`VisitError::Memory`] if the tree isn't empty and the allocation for the walk fails. Nothing is then visited,
+    /// and `f` is not called.
+    ///
+    /// # Visits
+    ///
+    /// At most `start.len() + 1 + 2 * m + h` nodes where `m` keys are within the bounds of a tree of height `h`, none
+    /// in an empty tree. With `n` calls, at most the nodes on the path to `start`, `2 * n` and `h`.
+    pub fn try_for_each_range_view_by_ref_bytes_counted<
+        E,
+        F: FnMut(LendingKeyView<'_, '_>, &V) -> Result<VisitControl, E>,
+    >(self, start: Bound<&[u8]>, end: Bound<&[u8]>, f: &mut F, counter: &mut C) -> Result<(), VisitError<E>>
+        requires callable { CanTryView F.FnMut f.old
+            (cut_between (lent_bound start) (lent_bound end) (seen_pairs self)) }
+        ensures stays_callable { F.IsAlwaysCallable f.old → F.IsAlwaysCallable f.new }
+        ensures calls { EndsViewVisit F.FnMut f.old
+            (cut_between (lent_bound start.entry) (lent_bound end.entry) (seen_pairs self.entry))
+            result f.new }
+        ensures memory { IfErr result (MayStopForMemory (seen_pairs self.entry)) }
+        ensures unvisited { OnRefused result (counter.new ≡ counter.old) }
+        ensures visits { IfAllocated result (C.number counter.new ≤ C.number counter.old
+            + span_visits (lent_bound start.entry) (lent_bound end.entry) (seen_pairs self.entry)) }
+        ensures bound { C.number counter.new ≤ C.number counter.old
+            + span_bound (lent_bound start.entry) (lent_bound end.entry) (seen_pairs self.entry) }
+        ensures by_calls { ViewsSo F.FnMut f.old
+            (cut_between (lent_bound start.entry) (lent_bound end.entry) (seen_pairs self.entry))
+            result f.new
+            (λ n. C.number counter.new ≤ C.number counter.old
+            + call_visits (bound_bytes (lent_bound start.entry)) n (seen_pairs self.entry)) }
+    {
+        let (bytes, included) = bytes_of(start);
+        let Ok((mut walk, mut path)) = self.walk_from::<SegmentPath<'a>>(bytes, included, counter)
+        else {
+            return Err(VisitError::Memory);
+        };
+        match try_for_each_view_to(&mut walk, &mut path, end, counter, f) {
+            Ok(()) => Ok(()),
+            Err(error) => Err(VisitError::Callback(error)),
+        }
+    }
+
+    /// Calls `f` as
+    /// [`try_for_each_range_view_by_ref_bytes_counted`](Self::try_for_each_range_view_by_ref_bytes_counted) does, and
+    /// drops it.
+    ///
+    /// # Errors
+    ///
+    /// [`VisitError::Memory`] if the tree isn't empty and the allocation for the walk fails. Nothing is then visited.
+    /// [`VisitError::Callback`] with the error that `f` returned.
+    ///
+    /// # Visits
+    ///
+    /// At most `start.len() + 1 + 2 * m + h` nodes where `m` keys are within the bounds of a tree of height `h`, none
+    /// in an empty tree. With `n` calls, at most the nodes on the path to `start`, `2 * n` and `h`.
+    pub fn try_for_each_range_view_bytes_counted<
+        E,
+        F: FnMut(LendingKeyView<'_, '_>, &V) -> Result<VisitControl, E> + Drop,
+    >(self, start: Bound<&[u8]>, end: Bound<&[u8]>, mut f: F, counter: &mut C) -> Result<(), VisitError<E>>
+        requires callable { CanTryView F.FnMut f
+            (cut_between (lent_bound start) (lent_bound end) (seen_pairs self)) }
+        ensures calls { EndsViewVisitByValue F.FnMut f
+            (cut_between (lent_bound start.entry) (lent_bound end.entry) (seen_pairs self.entry))
+            result }
+        ensures memory { IfErr result (MayStopForMemory (seen_pairs self.entry)) }
+        ensures unvisited { OnRefused result (counter.new ≡ counter.old) }
+        ensures visits { IfAllocated result (C.number counter.new ≤ C.number counter.old
+            + span_visits (lent_bound start.entry) (lent_bound end.entry) (seen_pairs self.entry)) }
+        ensures bound { C.number counter.new ≤ C.number counter.old
+            + span_bound (lent_bound start.entry) (lent_bound end.entry) (seen_pairs self.entry) }
+        ensures by_calls { ViewsSoByValue F.FnMut f
+            (cut_between (lent_bound start.entry) (lent_bound end.entry) (seen_pairs self.entry))
+            result
+            (λ n. C.number counter.new ≤ C.number counter.old
+            + call_visits (bound_bytes (lent_bound start.entry)) n (seen_pairs self.entry)) }
+    {
+        self.try_for_each_range_view_by_ref_bytes_counted(start, end, &mut f, counter)
+    }
 }
 
 impl<'a, K: KeyTrait + Drop, V, C: Count> Seen<'a, K, V, C> {
@@ -314,15 +376,12 @@ impl<'a, K: KeyTrait + Drop, V, C: Count> Seen<'a, K, V, C> {
             (λ n. C.number counter.new ≤ C.number counter.old
             + call_visits (bound_bytes (bound_in K.bytes start)) n (seen_pairs self.entry)) }
     {
-        let (bytes, included) = bytes_of(&start);
-        let Ok((mut walk, mut path)) = self.walk_from::<SegmentPath<'a>>(bytes, included, counter)
-        else {
-            return Err(VisitError::Memory);
-        };
-        match try_for_each_view_to(&mut walk, &mut path, end_bytes(&end), counter, f) {
-            Ok(()) => Ok(()),
-            Err(error) => Err(VisitError::Callback(error)),
-        }
+        self.try_for_each_range_view_by_ref_bytes_counted(
+            slice_bound(&start),
+            slice_bound(&end),
+            f,
+            counter,
+        )
     }
 
     /// Calls `f` as [`try_for_each_range_view_by_ref_counted`](Self::try_for_each_range_view_by_ref_counted) does, and

@@ -7,12 +7,14 @@ ghost use Rattle.std.specs.Iterator.{YieldsFirstBy, item_count};
 ghost use Rattle.std.specs.Ordering.{match_ordering};
 ghost use Rattle.std.specs.Prelude.{◌≡◌, ◌≤◌, ◌+◌, length, reverse, IfErr, IfOk, OnErr, true, false};
 ghost use Rattle.rart_keys.specs.Ranges.{between, bound_bytes, bound_in, is_from};
+ghost use Rattle.rart_nodes.specs.ranges.LentBounds.{lent_bound};
 ghost use Rattle.rart_nodes.specs.ranges.UpperBounds.{TakesDownTo, down_to, pairs_until, to_bound};
 ghost use Rattle.rart_trie.specs.ranges.Starts.{bytes_taken};
 ghost use Rattle.rart_nodes.specs.tries.SeenTrees.{seen_keys, seen_pairs};
 ghost use Rattle.rart_trie.specs.walks.ProbeCount.{probe_count};
 ghost use Rattle.rart_trie.specs.walks.Calls.{MayLackMemory};
 
+use crate::node::range::{short_start, slice_bound};
 use crate::node::seen::Seen;
 use crate::node::walks::descending::KeyBackWalk;
 use rart_keys::{KeyTrait, Partial};
@@ -23,7 +25,7 @@ use std::marker::{Model, PhantomData};
 use std::ops::Bound;
 
 /// Returns whether a key that compares so to a start comes after it. At the start itself, returns `included`.
-fn is_after(at: Ordering, included: bool) -> bool
+pub(crate) fn is_after(at: Ordering, included: bool) -> bool
     ensures { result ≡ match_ordering at false included true }
 {
     match at {
@@ -181,27 +183,54 @@ impl<'a, K: KeyTrait, V, C: Count> Seen<'a, K, V, C> {
 
     fn key_back_walk_within(
         self,
-        end: &Bound<K>,
+        end: Bound<&[u8]>,
         counter: &mut C,
     ) -> Result<KeyBackWalk<'a, K, K::PartialType, V, C>, TreeError>
         ensures pairs { IfOk result
-            (λ it. it ≡ to_bound (bound_in K.bytes end.now) (seen_pairs self.entry)) }
+            (λ it. it ≡ to_bound (lent_bound end.entry) (seen_pairs self.entry)) }
         ensures memory { IfErr result (MayLackMemory (seen_pairs self.entry)) }
         ensures unvisited { OnErr result (counter.new ≡ counter.old) }
         ensures visits { IfOk result (λ _. C.number counter.new ≡ C.number counter.old
-            + probe_count (seen_keys self.entry) (bound_bytes (bound_in K.bytes end.now))) }
+            + probe_count (seen_keys self.entry) (bound_bytes (lent_bound end.entry))) }
         ensures bound { C.number counter.new
-            ≤ C.number counter.old + length (bound_bytes (bound_in K.bytes end.now)) + 1 }
+            ≤ C.number counter.old + length (bound_bytes (lent_bound end.entry)) + 1 }
     {
         match end {
-            Bound::Included(end) => self.key_back_walk_to(end.as_ref(), true, counter),
-            Bound::Excluded(end) => self.key_back_walk_to(end.as_ref(), false, counter),
+            Bound::Included(end) => self.key_back_walk_to(end, true, counter),
+            Bound::Excluded(end) => self.key_back_walk_to(end, false, counter),
             Bound::Unbounded => self.key_back_walk(counter),
         }
     }
 }
 
 impl<'a, K: KeyTrait + Drop, V, C: Count> Seen<'a, K, V, C> {
+    /// Returns the pairs from a start to an end, given by its bytes, the last first.
+    fn range_back_to(
+        self,
+        start: Bound<K>,
+        end: Bound<&[u8]>,
+        counter: &mut C,
+    ) -> Result<SeenRangeDescending<'a, K, V, C>, TreeError>
+        ensures pairs { IfOk result (λ r. down_to r.0 r.1 ≡ reverse
+            (between (bound_in K.bytes start) (lent_bound end.entry) (seen_pairs self.entry))) }
+        ensures start { IfOk result (λ r. r.0 ≡ bound_in K.bytes start) }
+        ensures ahead { IfOk result
+            (λ r. r.1 ≡ reverse (to_bound (lent_bound end.entry) (seen_pairs self.entry))) }
+        ensures memory { IfErr result (MayLackMemory (seen_pairs self.entry)) }
+        ensures unvisited { OnErr result (counter.new ≡ counter.old) }
+        ensures visits { IfOk result (λ _. C.number counter.new ≡ C.number counter.old
+            + probe_count (seen_keys self.entry) (bound_bytes (lent_bound end.entry))) }
+        ensures bound { C.number counter.new
+            ≤ C.number counter.old + length (bound_bytes (lent_bound end.entry)) + 1 }
+    {
+        let walk = self.key_back_walk_within(end, counter)?;
+        let pairs = BoundedBackWalk {
+            walk: BackWalkState::Active(walk),
+            start,
+        };
+        Ok(SeenRangeDescending { pairs })
+    }
+
     /// Returns the pairs within two bounds, the last first. It allocates as
     /// [`iter_descending_counted`](Self::iter_descending_counted) does.
     ///
@@ -230,12 +259,38 @@ impl<'a, K: KeyTrait + Drop, V, C: Count> Seen<'a, K, V, C> {
         ensures bound { C.number counter.new
             ≤ C.number counter.old + length (bound_bytes (bound_in K.bytes end)) + 1 }
     {
-        let walk = self.key_back_walk_within(&end, counter)?;
-        let pairs = BoundedBackWalk {
-            walk: BackWalkState::Active(walk),
-            start,
-        };
-        Ok(SeenRangeDescending { pairs })
+        self.range_back_to(start, slice_bound(&end), counter)
+    }
+
+    /// Returns the pairs within two bounds, whose bytes may be more than any key has, the last first. It allocates as
+    /// [`iter_descending_counted`](Self::iter_descending_counted) does.
+    ///
+    /// # Errors
+    ///
+    /// [`TreeError::Memory`] if the tree isn't empty and the allocation fails. Nothing is then visited.
+    ///
+    /// # Visits
+    ///
+    /// At most one node more than the end has bytes, and none in an empty tree.
+    pub fn range_descending_bytes_counted(
+        self,
+        start: Bound<&[u8]>,
+        end: Bound<&[u8]>,
+        counter: &mut C,
+    ) -> Result<SeenRangeDescending<'a, K, V, C>, TreeError>
+        ensures pairs { IfOk result (λ r. down_to r.0 r.1 ≡ reverse
+            (between (lent_bound start.entry) (lent_bound end.entry) (seen_pairs self.entry))) }
+        ensures ahead { IfOk result
+            (λ r. r.1 ≡ reverse (to_bound (lent_bound end.entry) (seen_pairs self.entry))) }
+        ensures memory { IfErr result (MayLackMemory (seen_pairs self.entry)) }
+        ensures unvisited { OnErr result (counter.new ≡ counter.old) }
+        ensures visits { IfOk result (λ _. C.number counter.new ≡ C.number counter.old
+            + probe_count (seen_keys self.entry) (bound_bytes (lent_bound end.entry))) }
+        ensures bound { C.number counter.new
+            ≤ C.number counter.old + length (bound_bytes (lent_bound end.entry)) + 1 }
+    {
+        let start = short_start(start, self.longest());
+        self.range_back_to(start, end, counter)
     }
 }
 
@@ -256,6 +311,24 @@ impl<'a, K: KeyTrait + Drop, V> Seen<'a, K, V, Visits> {
         ensures memory { IfErr result (MayLackMemory (seen_pairs self.entry)) }
     {
         let pairs = self.range_descending_counted(start, end, &mut Visits::new())?;
+        Ok(RangeDescending { pairs })
+    }
+    /// Returns the pairs within two bounds, whose bytes may be more than any key has, the last first. It allocates as
+    /// [`iter_descending_counted`](Self::iter_descending_counted) does.
+    ///
+    /// # Errors
+    ///
+    /// [`TreeError::Memory`] if the tree isn't empty and the allocation fails.
+    pub fn range_descending_bytes(
+        self,
+        start: Bound<&[u8]>,
+        end: Bound<&[u8]>,
+    ) -> Result<RangeDescending<'a, K, V>, TreeError>
+        ensures pairs { IfOk result (λ r. down_to r.0 r.1 ≡ reverse
+            (between (lent_bound start.entry) (lent_bound end.entry) (seen_pairs self.entry))) }
+        ensures memory { IfErr result (MayLackMemory (seen_pairs self.entry)) }
+    {
+        let pairs = self.range_descending_bytes_counted(start, end, &mut Visits::new())?;
         Ok(RangeDescending { pairs })
     }
 }

@@ -1,6 +1,6 @@
 use Rattle.std.proofs.Common.{ℕ, ◌≤◌, ◌+◌, ◌*◌, length, reverse, vec_capacity}
 use Rattle.std.specs.Option.{option_copied}
-use Rattle.rart_keys.specs.Ranges.{bound_in}
+use Rattle.rart_nodes.specs.ranges.LentBounds.{lent_bound}
 use Rattle.rart_nodes.specs.ranges.Potential.{AreLow, potential}
 use Rattle.rart_trie.specs.ranges.Starts.{entries_to}
 use Rattle.rart_trie.specs.walks.Walk.{IsWalk, entries_ahead}
@@ -11,7 +11,7 @@ use Rattle.rart_nodes.proofs.node.walks.range_views.for_each_view_to.Given as go
 
 abbrev pub invariant-loop-value : goal.invariant-loop-value
 invariant-loop-value g l = record {
-  callable : CanView g.F.FnMut l.f (entries_to (bound_in g.K.KeyTrait.bytes l.end)
+  callable : CanView g.F.FnMut l.f (entries_to (lent_bound l.end)
       (entries_ahead one_segment (lent_segments l.path.segments.items) (option_copied l.walk.first)
       l.walk.levels.items));
   path : IsWalk l.walk.longest (vec_capacity l.walk.levels) (lent_segments l.path.segments.items)
@@ -20,18 +20,18 @@ invariant-loop-value g l = record {
   views : AreViews (entries_ahead one_segment (lent_segments l.path.segments.items) (option_copied l.walk.first)
       l.walk.levels.items);
   folds : (last : _) → ViewsEach g.F.FnMut l.f
-      (entries_to (bound_in g.K.KeyTrait.bytes l.end)
+      (entries_to (lent_bound l.end)
       (entries_ahead one_segment (lent_segments l.path.segments.items) (option_copied l.walk.first)
       l.walk.levels.items)) last
-      → ViewsEach g.F.FnMut l.fn.f (entries_to (bound_in g.K.KeyTrait.bytes l.end)
+      → ViewsEach g.F.FnMut l.fn.f (entries_to (lent_bound l.end)
       (entries_ahead one_segment (lent_segments l.fn.path.segments.items) (option_copied l.fn.walk.first)
       l.fn.walk.levels.items)) last;
   visits : g.C.Count.number l.counter + 2 * length
-      (entries_to (bound_in g.K.KeyTrait.bytes l.end)
+      (entries_to (lent_bound l.end)
       (entries_ahead one_segment (lent_segments l.path.segments.items) (option_copied l.walk.first)
       l.walk.levels.items))
       ≤ g.C.Count.number l.fn.counter + 2 * length
-      (entries_to (bound_in g.K.KeyTrait.bytes l.end)
+      (entries_to (lent_bound l.end)
       (entries_ahead one_segment (lent_segments l.fn.path.segments.items) (option_copied l.fn.walk.first)
       l.fn.walk.levels.items)) + potential (reverse l.walk.levels.items);
   low : (h : ℕ) → AreLow h (reverse l.fn.walk.levels.items) → AreLow h (reverse l.walk.levels.items);

@@ -1,6 +1,6 @@
 use Rattle.std.proofs.Common.{arith, rules, of_calls, ◌≡◌, ◌+◌, [], ◌∷◌, List, ap, subst, sym, refl, ◌∙◌, Ok, Err}
 use Rattle.std.specs.Option.{option_copied}
-use Rattle.rart_keys.specs.Ranges.{bound_in}
+use Rattle.rart_nodes.specs.ranges.LentBounds.{lent_bound}
 use Rattle.rart_nodes.specs.declared.node.walks.control.VisitControl.TheVariants.{Continue, Stop}
 use Rattle.rart_nodes.specs.walks.PathParts.{lent_segments, one_segment}
 use Rattle.rart_nodes.specs.walks.TriedViews.{EndsViews, EndsViewsAfter, ViewedAs}
@@ -28,18 +28,18 @@ loop-value-init g c = record {
 }
 
 -- the first key past the end
-past : (g : Over) (c : Then-not-is_up_to g) → entries_to (bound_in (λ b. b.now) c.args.end)
+past : (g : Over) (c : Then-not-is_up_to g) → entries_to (lent_bound c.args.end)
     (entries_ahead one_segment (lent_segments c.loop-value.path.segments.items)
     (option_copied c.loop-value.walk.first) c.loop-value.walk.levels.items) ≡ []
 past g c = stop-past _ _ _ _ _ _ c.in-Some.ensures.entries (c.of-view.ensures ∙ ap lent_segments c.segments.ensures)
     (sym c.is_up_to.ensures ∙ c.if-not-is_up_to.true)
 
 -- a key within it
-within : (g : Over) (c : Else-not-is_up_to g) → entries_to (bound_in (λ b. b.now) c.args.end)
+within : (g : Over) (c : Else-not-is_up_to g) → entries_to (lent_bound c.args.end)
     (entries_ahead one_segment (lent_segments c.loop-value.path.segments.items)
     (option_copied c.loop-value.walk.first) c.loop-value.walk.levels.items)
     ≡ (lent_segments c.advance.new.path.segments.items, c.in-Some.value.now)
-    ∷ entries_to (bound_in (λ b. b.now) c.args.end)
+    ∷ entries_to (lent_bound c.args.end)
     (entries_ahead one_segment (lent_segments c.advance.new.path.segments.items)
     (option_copied c.advance.new.self.first) c.advance.new.self.levels.items)
 within g c = stop-within _ _ _ _ _ _ c.in-Some.ensures.entries (c.of-view.ensures
@@ -72,7 +72,7 @@ returns-then-not-is_up_to-clause-by_calls g c = λ h w.
 
 pub returns-clause-calls : goal.returns-clause-calls
 returns-clause-calls g c =
-    let b = bound_in (λ b. b.now) c.args.end in
+    let b = lent_bound c.args.end in
     let over = ap (entries_to b) c.in_default.ensures.entries.0 in
     c.loop-value.invariant.ends _ _ (rw over (refl, refl))
 
@@ -81,7 +81,7 @@ returns-clause-stays_callable g c = always-after-tried-views g.F.FnMut _ _ _ _ (
 
 pub returns-clause-by_calls : goal.returns-clause-by_calls
 returns-clause-by_calls g c = λ h w.
-    let b = bound_in (λ b. b.now) c.args.end in
+    let b = lent_bound c.args.end in
     let over = ap (entries_to b) c.in_default.ensures.entries.0 in
     let k = c.loop-value.invariant.counted in (
       k.0,

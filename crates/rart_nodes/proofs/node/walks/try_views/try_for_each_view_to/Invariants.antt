@@ -1,6 +1,6 @@
 use Rattle.std.proofs.Common.{ℕ, ◌≡◌, ◌≤◌, ◌+◌, ◌*◌, length, reverse, vec_capacity}
 use Rattle.std.specs.Option.{option_copied}
-use Rattle.rart_keys.specs.Ranges.{bound_in}
+use Rattle.rart_nodes.specs.ranges.LentBounds.{lent_bound}
 use Rattle.rart_nodes.specs.ranges.Potential.{AreLow, potential}
 use Rattle.rart_trie.specs.ranges.Starts.{entries_to}
 use Rattle.rart_trie.specs.walks.Walk.{IsWalk, entries_ahead, nodes_below}
@@ -11,7 +11,7 @@ use Rattle.rart_nodes.proofs.node.walks.try_views.try_for_each_view_to.Given as 
 
 abbrev pub invariant-loop-value : goal.invariant-loop-value
 invariant-loop-value g l = record {
-  callable : CanTryView g.F.FnMut l.f (entries_to (bound_in (λ b. b.now) l.end)
+  callable : CanTryView g.F.FnMut l.f (entries_to (lent_bound l.end)
       (entries_ahead one_segment (lent_segments l.path.segments.items) (option_copied l.walk.first)
       l.walk.levels.items));
   path : IsWalk l.walk.longest (vec_capacity l.walk.levels) (lent_segments l.path.segments.items)
@@ -19,17 +19,17 @@ invariant-loop-value g l = record {
   reserved : l.walk.longest ≤ vec_capacity l.path.segments;
   views : AreViews (entries_ahead one_segment (lent_segments l.path.segments.items) (option_copied l.walk.first)
       l.walk.levels.items);
-  ends : (r : _) (last : _) → EndsViews g.F.FnMut l.f (entries_to (bound_in (λ b. b.now) l.end)
+  ends : (r : _) (last : _) → EndsViews g.F.FnMut l.f (entries_to (lent_bound l.end)
       (entries_ahead one_segment (lent_segments l.path.segments.items) (option_copied l.walk.first)
       l.walk.levels.items)) r last
-      → EndsViews g.F.FnMut l.fn.f (entries_to (bound_in (λ b. b.now) l.end)
+      → EndsViews g.F.FnMut l.fn.f (entries_to (lent_bound l.end)
       (entries_ahead one_segment (lent_segments l.fn.path.segments.items) (option_copied l.fn.walk.first)
       l.fn.walk.levels.items)) r last;
   low : (h : ℕ) → AreLow h (reverse l.fn.walk.levels.items) → AreLow h (reverse l.walk.levels.items);
   counted : (k : ℕ) × (((n m : ℕ) (r : _) (last : _) → m ≡ k + n → EndsViewsAfter g.F.FnMut l.f
-      (entries_to (bound_in (λ b. b.now) l.end) (entries_ahead one_segment (lent_segments l.path.segments.items)
+      (entries_to (lent_bound l.end) (entries_ahead one_segment (lent_segments l.path.segments.items)
       (option_copied l.walk.first) l.walk.levels.items)) n r last
-      → EndsViewsAfter g.F.FnMut l.fn.f (entries_to (bound_in (λ b. b.now) l.end)
+      → EndsViewsAfter g.F.FnMut l.fn.f (entries_to (lent_bound l.end)
       (entries_ahead one_segment (lent_segments l.fn.path.segments.items) (option_copied l.fn.walk.first)
       l.fn.walk.levels.items)) m r last)
       × (g.C.Count.number l.counter + potential (reverse l.fn.walk.levels.items)

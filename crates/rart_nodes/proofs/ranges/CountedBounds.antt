@@ -1,0 +1,359 @@
+-- How many pairs at and below a node are within two bounds, and how many nodes are visited to count them.
+use Rattle.std.proofs.Common.{◌≡◌, ℕ, suc, ◌+◌, ◌*◌, ◌<◌, ◌≤◌, ⊎_elim, ◌&&◌, Bool, true, false, List, [], ◌∷◌, ◌++◌}
+use Rattle.std.proofs.Common.{length, length-append, Option, Some, None, refl, sym, ap, ap₂, ◌∙◌, arith, if◌then◌else◌}
+use Rattle.std.proofs.Common.{Less, Equal, Greater}
+use Rattle.std.specs.List.{filter}
+use Rattle.std.specs.Ordering.{nat_cmp, match_ordering}
+use Rattle.std.specs.Cmp.Lexicographic.{slice_cmp}
+use Rattle.std.specs.declared.cmp.Ordering.{Ordering}
+use Rattle.std.specs.declared.ops.Bound.{Bound}
+use Rattle.std.specs.declared.ops.Bound.TheVariants.{Included, Excluded, Unbounded}
+use Rattle.std.proofs.lemmas.List.{length-map}
+use Rattle.std.proofs.lemmas.List.Elements.{filter-append}
+use Rattle.rart_keys.specs.ByteStrings.{strip_prefix}
+use Rattle.rart_keys.specs.Ranges.{bound_bytes}
+use Rattle.rart_keys.specs.SortedMap.{keys_of}
+use Rattle.rart_keys.proofs.strings.ByteOrder.{order, is_less, is_equal, is_greater}
+use Rattle.rart_keys.proofs.maps.RangeLemmas.{cmp-apart, cmp-past, not-same}
+use Rattle.rart_trie.specs.declared.node.ends.End.{End}
+use Rattle.rart_trie.specs.declared.node.ends.End.TheVariants.{First, Last}
+use Rattle.rart_trie.specs.tries.CanonicalTest.{is_canonical}
+use Rattle.rart_trie.specs.tries.Tree.{tree_pairs}
+use Rattle.rart_trie.specs.tries.Trie.{Trie, node, Children, no_children, child, pairs_of, children_pairs, own_pair}
+use Rattle.rart_trie.specs.tries.Trie.{children_in, value_of, prefix_of, with_prefix, StartsWith, AreCanonical, by_rest}
+use Rattle.rart_trie.specs.tries.Trie.{descend_child, descend_tree}
+use Rattle.rart_trie.specs.walks.ProbeCount.{counts, entered_nodes, probe_count}
+use Rattle.rart_trie.proofs.tries.CanonicalTests.{IsCanonical-test}
+use Rattle.rart_trie.proofs.tries.Descents.{child_of-low, descend-child_of}
+use Rattle.rart_trie.proofs.tries.FirstBytes.{AllFirst, pairs_of-first}
+use Rattle.rart_trie.proofs.tries.StepLemmas.{root-entered}
+use Rattle.rart_nodes.specs.ranges.BoundCuts.{bound_at, bound_by, bound_past, bound_with, first_cmp, has_bytes, is_in}
+use Rattle.rart_nodes.specs.ranges.BoundCuts.{is_inside, path_count, rest_past, unbounded_if}
+use Rattle.rart_nodes.proofs.ranges.ComparedEntries.{filter-map, is_after, is_before}
+
+-- whether a key is within a bound, if there is one
+abbrev pub is_in_some : End → Option (Bound (List ℕ)) → List ℕ → Bool
+is_in_some e None k = false
+is_in_some e (Some a) k = is_in e a k
+
+-- by how it compares with the bound's bytes
+abbrev is_by : End → Bool → Ordering → Bool
+is_by First h o = is_after h o
+is_by Last h o = is_before h o
+
+in-with : (e : End) (h : Bool) (s k : List ℕ) → is_in e (bound_with h s) k ≡ is_by e h (slice_cmp nat_cmp k s)
+in-with First true s k = refl
+in-with First false s k = refl
+in-with Last true s k = refl
+in-with Last false s k = refl
+
+in-all : (e : End) (k : List ℕ) → is_in e Unbounded k ≡ true
+in-all First k = refl
+in-all Last k = refl
+
+-- a key that isn't the bound itself
+in-other : (e : End) (h : Bool) (o : Ordering) (k : List ℕ) → (o ≡ Equal → ⊥)
+    → is_by e h o ≡ is_in_some e (unbounded_if (is_inside e o)) k
+in-other First h Less k n = refl
+in-other First h Equal k n = absurd (n refl)
+in-other First h Greater k n = refl
+in-other Last h Less k n = refl
+in-other Last h Equal k n = absurd (n refl)
+in-other Last h Greater k n = refl
+
+past-with : (e : End) (h : Bool) (p s k : List ℕ) → is_in e (bound_with h s) (p ++ k)
+    ≡ is_in_some e (rest_past e (slice_cmp nat_cmp p s) h (strip_prefix p s)) k
+past-with e h p s k = elim (strip_prefix p s) as (λ z. strip_prefix p s ≡ z → is_in e (bound_with h s) (p ++ k)
+    ≡ is_in_some e (rest_past e (slice_cmp nat_cmp p s) h z) k) [
+      | None ↦ λ q. in-with e h s (p ++ k) ∙ ap (is_by e h) (cmp-apart p s k q)
+          ∙ in-other e h (slice_cmp nat_cmp p s) k (not-same p s q)
+      | Some r ↦ λ q. in-with e h s (p ++ k) ∙ ap (is_by e h) (cmp-past p s r k q) ∙ sym (in-with e h r k)
+    ] refl
+
+-- after a prefix
+in-past : (e : End) (p : List ℕ) (a : Bound (List ℕ)) (k : List ℕ)
+    → is_in e a (p ++ k) ≡ is_in_some e (bound_past e p a) k
+in-past e p Unbounded k = in-all e (p ++ k) ∙ sym (in-all e k)
+in-past e p (Included s) k = past-with e true p s k
+in-past e p (Excluded s) k = past-with e false p s k
+
+at-with : (e : End) (h : Bool) (c : ℕ) (s k : List ℕ) → StartsWith c k
+    → is_in e (bound_with h s) k ≡ is_in_some e (bound_by e (bound_with h s) (first_cmp c s)) k
+at-with e h c s [] f = absurd f
+at-with e h c [] (x ∷ k) f = in-with e h [] (x ∷ k) ∙ in-other e h Greater (x ∷ k) (λ q. absurd (cc))
+at-with e h c (b ∷ s) (x ∷ k) f = ⊎_elim
+    (λ l. let t : slice_cmp nat_cmp (x ∷ k) (b ∷ s) ≡ Less = rw (is_less x b (omega (arith, f, l))) refl in
+    rw (is_less c b l) (in-with e h (b ∷ s) (x ∷ k) ∙ ap (is_by e h) t
+    ∙ in-other e h Less (x ∷ k) (λ q. absurd (cc))))
+    (⊎_elim (λ q. rw (is_equal c b q) refl)
+    (λ l. let t : slice_cmp nat_cmp (x ∷ k) (b ∷ s) ≡ Greater = rw (is_greater x b (omega (arith, f, l))) refl in
+    rw (is_greater c b l) (in-with e h (b ∷ s) (x ∷ k) ∙ ap (is_by e h) t
+    ∙ in-other e h Greater (x ∷ k) (λ q. absurd (cc))))) (order c b)
+
+-- after a byte
+in-at : (e : End) (c : ℕ) (a : Bound (List ℕ)) (k : List ℕ) → StartsWith c k
+    → is_in e a k ≡ is_in_some e (bound_at e c a) k
+in-at e c Unbounded k f = refl
+in-at e c (Included s) k f = at-with e true c s k f
+in-at e c (Excluded s) k f = at-with e false c s k f
+
+-- the children after one whose keys are past an end are past it too
+later-none : (b : Bound (List ℕ)) (c d : ℕ) → c ≤ d → bound_at Last c b ≡ None → bound_at Last d b ≡ None
+later-none Unbounded c d l h = absurd (cc)
+later-none (Included []) c d l h = refl
+later-none (Included (x ∷ s)) c d l h = ⊎_elim (λ i. let g = rw (is_less c x i) at h in absurd (cc))
+    (⊎_elim (λ i. let g = rw (is_equal c x i) at h in absurd (cc))
+    (λ i. rw (is_greater d x (omega (arith, i, l))) refl)) (order c x)
+later-none (Excluded []) c d l h = refl
+later-none (Excluded (x ∷ s)) c d l h = ⊎_elim (λ i. let g = rw (is_less c x i) at h in absurd (cc))
+    (⊎_elim (λ i. let g = rw (is_equal c x i) at h in absurd (cc))
+    (λ i. rw (is_greater d x (omega (arith, i, l))) refl)) (order c x)
+
+pub no-bytes : (a : Bound (List ℕ)) → has_bytes a ≡ false → a ≡ Unbounded
+no-bytes Unbounded h = refl
+no-bytes (Included s) h = absurd (cc)
+no-bytes (Excluded s) h = absurd (cc)
+
+-- whether a key is within both bounds, if there are both
+abbrev is_in_both : Option (Bound (List ℕ)) → Option (Bound (List ℕ)) → List ℕ → Bool
+is_in_both a b k = is_in_some First a k && is_in_some Last b k
+
+module _ {V : Type 0} where
+  -- how many pairs are
+  abbrev pub count_in : Option (Bound (List ℕ)) → Option (Bound (List ℕ)) → List (List ℕ × V) → ℕ
+  count_in a b es = length (filter (λ e. is_in_both a b e.0) es)
+
+  none-start : (b : Option (Bound (List ℕ))) (es : List (List ℕ × V)) → count_in None b es ≡ 0
+  none-start b [] = refl
+  none-start b (e ∷ es) = none-start b es
+
+  none-end : (a : Option (Bound (List ℕ))) (es : List (List ℕ × V)) → count_in a None es ≡ 0
+  none-end a [] = refl
+  none-end a (e ∷ es) = elim (is_in_some First a e.0)
+      as (λ z. length (if z && false then e ∷ filter (λ x. is_in_both a None x.0) es
+      else filter (λ x. is_in_both a None x.0) es) ≡ 0) [ true ↦ none-end a es | false ↦ none-end a es ]
+
+  pub all-in : (es : List (List ℕ × V)) → count_in (Some Unbounded) (Some Unbounded) es ≡ length es
+  all-in [] = refl
+  all-in (e ∷ es) = ap suc (all-in es)
+
+  count-append : (a b : Option (Bound (List ℕ))) (xs ys : List (List ℕ × V))
+      → count_in a b (xs ++ ys) ≡ count_in a b xs + count_in a b ys
+  count-append a b xs ys = ap length (filter-append (λ e. is_in_both a b e.0) xs ys)
+      ∙ length-append (filter (λ e. is_in_both a b e.0) xs) (filter (λ e. is_in_both a b e.0) ys)
+
+  count-few : (a b : Option (Bound (List ℕ))) (es : List (List ℕ × V)) → count_in a b es ≤ length es
+  count-few a b [] = omega arith
+  count-few a b (e ∷ es) = elim (is_in_both a b e.0)
+      as (λ z. length (if z then e ∷ filter (λ x. is_in_both a b x.0) es else filter (λ x. is_in_both a b x.0) es)
+      ≤ length (e ∷ es)) [ true ↦ omega (arith, count-few a b es) | false ↦ omega (arith, count-few a b es) ]
+
+  -- at a node, by what follows its prefix
+  count-past : (a b : Bound (List ℕ)) (p : List ℕ) (es : List (List ℕ × V)) → count_in (Some a) (Some b) (with_prefix p es)
+      ≡ count_in (bound_past First p a) (bound_past Last p b) es
+  count-past a b p es = ap length (filter-map (λ e. (p ++ e.0, e.1))
+      (λ e. is_in_both (bound_past First p a) (bound_past Last p b) e.0) (λ e. is_in_both (Some a) (Some b) e.0) es
+      (λ e. ap₂ (λ x y. x && y) (in-past First p a e.0) (in-past Last p b e.0)))
+      ∙ length-map (filter (λ e. is_in_both (bound_past First p a) (bound_past Last p b) e.0) es)
+      (λ e. (p ++ e.0, e.1))
+
+  -- at a child, by its byte
+  count-at : (a b : Bound (List ℕ)) (c : ℕ) (es : List (List ℕ × V)) → AllFirst c es
+      → count_in (Some a) (Some b) es ≡ count_in (bound_at First c a) (bound_at Last c b) es
+  count-at a b c [] f = refl
+  count-at a b c (e ∷ es) f =
+      let o = bound_at First c a in
+      let u = bound_at Last c b in
+      let rest = count-at a b c es f.1 in
+      let same : is_in_both (Some a) (Some b) e.0 ≡ is_in_both o u e.0
+      = ap₂ (λ x y. x && y) (in-at First c a e.0 f.0) (in-at Last c b e.0 f.0) in
+      ap (λ (z : Bool). length (if z then e ∷ filter (λ x. is_in_both (Some a) (Some b) x.0) es
+      else filter (λ x. is_in_both (Some a) (Some b) x.0) es)) same
+      ∙ elim (is_in_both o u e.0) as (λ z. length (if z then e ∷ filter (λ x. is_in_both (Some a) (Some b) x.0) es
+      else filter (λ x. is_in_both (Some a) (Some b) x.0) es)
+      ≡ length (if z then e ∷ filter (λ x. is_in_both o u x.0) es else filter (λ x. is_in_both o u x.0) es))
+      [ true ↦ ap suc rest | false ↦ rest ]
+
+  -- past the end
+  pub none-later : (a b : Bound (List ℕ)) (c low : ℕ) (cs : Children V) → c ≤ low → AreCanonical low cs
+      → bound_at Last c b ≡ None → count_in (Some a) (Some b) (children_pairs cs) ≡ 0
+  none-later a b c low no_children l w n = refl
+  none-later a b c low (child d t cs) l w n = omega (
+    arith,
+    count-append (Some a) (Some b) (pairs_of t) (children_pairs cs),
+    count-at a b d (pairs_of t) (pairs_of-first d t w.1),
+    ap (λ z. count_in (bound_at First d a) z (pairs_of t)) (later-none b c d (omega (arith, l, w.0)) n),
+    none-end (bound_at First d a) (pairs_of t),
+    none-later a b c (suc d) cs (omega (arith, l, w.0)) w.3 n,
+  )
+
+  -- how many nodes the path to a bound has at and below a node, if there is a bound
+  abbrev path_some : Option (Bound (List ℕ)) → Trie V → ℕ
+  path_some None t = 0
+  path_some (Some a) t = path_count a t
+
+  -- the same among children
+  abbrev path_by : List ℕ → Children V → ℕ
+  path_by [] cs = 0
+  path_by (b ∷ s) cs = descend_child counts b (b ∷ s) cs
+
+  abbrev path_below : Bound (List ℕ) → Children V → ℕ
+  path_below Unbounded cs = 0
+  path_below (Included s) cs = path_by s cs
+  path_below (Excluded s) cs = path_by s cs
+
+  -- the most nodes that are visited at and below a child, and those of children
+  abbrev most_at : Option (Bound (List ℕ)) → Option (Bound (List ℕ)) → Trie V → ℕ
+  most_at None b t = 0
+  most_at (Some a) None t = 0
+  most_at (Some a) (Some b) t = path_count a t + path_count b t + 2 * count_in (Some a) (Some b) (pairs_of t)
+
+  abbrev pub most_below : Bound (List ℕ) → Bound (List ℕ) → Children V → ℕ
+  most_below a b no_children = 0
+  most_below a b (child c t cs) = most_at (bound_at First c a) (bound_at Last c b) t + most_below a b cs
+
+  count-with : (h : Bool) (s : List ℕ) (t : Trie V) → path_count (bound_with h s) t ≡ entered_nodes s t
+  count-with true s t = refl
+  count-with false s t = refl
+
+  below-with : (h : Bool) (s : List ℕ) (cs : Children V) → path_below (bound_with h s) cs ≡ path_by s cs
+  below-with true s cs = refl
+  below-with false s cs = refl
+
+  path-unbounded : (z : Bool) (t : Trie V) → path_some (unbounded_if z) t ≡ 0
+  path-unbounded true t = refl
+  path-unbounded false t = refl
+
+  below-unbounded : (z : Bool) (a : Bound (List ℕ)) (cs : Children V) → unbounded_if z ≡ Some a → path_below a cs ≡ 0
+  below-unbounded true a cs h = let i : Unbounded ≡ a = cc in rw (← i) refl
+  below-unbounded false a cs h = absurd (cc)
+
+  low-absent : (b low : ℕ) (s : List ℕ) (cs : Children V) → b < low → AreCanonical low cs
+      → descend_child counts b s cs ≡ 0
+  low-absent b low s cs h w = descend-child_of counts b low s cs w
+      ∙ ap (descend_tree counts s) (child_of-low b low cs h w)
+
+  -- at a node: the path to a bound goes on to its children
+  path-followed : (r : List ℕ) (cs : Children V)
+      → 1 + path_by r cs ≡ by_rest 1 1 (λ n. 1 + n) (Some r) (λ b k. descend_child counts b k cs)
+  path-followed [] cs = refl
+  path-followed (b ∷ r) cs = refl
+
+  rest-path : (e : End) (o : Ordering) (h : Bool) (r : Option (List ℕ)) (a : Bound (List ℕ)) (cs : Children V)
+      → rest_past e o h r ≡ Some a
+      → 1 + path_below a cs ≡ by_rest 1 1 (λ n. 1 + n) r (λ b k. descend_child counts b k cs)
+  rest-path e o h None a cs q = rw (below-unbounded (is_inside e o) a cs q) refl
+  rest-path e o h (Some r) a cs q = let i : bound_with h r ≡ a = cc in
+      rw (← i, below-with h r cs) (path-followed r cs)
+
+  -- one more than the others, where there is a bound
+  abbrev one_if : Bool → ℕ
+  one_if true = 1
+  one_if false = 0
+
+  path-past : (e : End) (a o : Bound (List ℕ)) (t : Trie V) → bound_past e (prefix_of t) a ≡ Some o
+      → one_if (has_bytes a) + path_below o (children_in t) ≤ path_count a t
+  path-past e Unbounded o t q = let i : Unbounded ≡ o = cc in rw (← i) (omega arith)
+  path-past e (Included s) o (node p v n cs) q
+      = omega (arith, rest-path e (slice_cmp nat_cmp p s) true (strip_prefix p s) o cs q)
+  path-past e (Excluded s) o (node p v n cs) q
+      = omega (arith, rest-path e (slice_cmp nat_cmp p s) false (strip_prefix p s) o cs q)
+
+  some-by : (r : Option (List ℕ)) (f : ℕ → List ℕ → ℕ) → 1 ≤ by_rest 1 1 (λ n. 1 + n) r f
+  some-by None f = omega arith
+  some-by (Some []) f = omega arith
+  some-by (Some (b ∷ r)) f = omega arith
+
+  path-some : (a : Bound (List ℕ)) (t : Trie V) → one_if (has_bytes a) ≤ path_count a t
+  path-some Unbounded t = omega arith
+  path-some (Included s) (node p v n cs) = some-by (strip_prefix p s) (λ b k. descend_child counts b k cs)
+  path-some (Excluded s) (node p v n cs) = some-by (strip_prefix p s) (λ b k. descend_child counts b k cs)
+
+  -- at a child
+  step-with : (e : End) (h : Bool) (c : ℕ) (s : List ℕ) (t : Trie V) (cs : Children V) → AreCanonical (suc c) cs
+      → path_some (bound_by e (bound_with h s) (first_cmp c s)) t + path_by s cs ≤ path_by s (child c t cs)
+  step-with e h c [] t cs w = omega (arith, path-unbounded (is_inside e Greater) t)
+  step-with e h c (b ∷ s) t cs w = ⊎_elim
+      (λ l. rw (is_less c b l, is_greater b c l) (omega (arith, path-unbounded (is_inside e Less) t)))
+      (⊎_elim
+      (λ q. rw (is_equal c b q, is_equal b c (sym q), low-absent b (suc c) (b ∷ s) cs (omega (arith, q)) w,
+      count-with h (b ∷ s) t) (omega arith))
+      (λ l. rw (is_greater c b l, is_less b c l, low-absent b (suc c) (b ∷ s) cs (omega (arith, l)) w)
+      (omega (arith, path-unbounded (is_inside e Greater) t)))) (order c b)
+
+  step-path : (e : End) (c : ℕ) (a : Bound (List ℕ)) (t : Trie V) (cs : Children V) → AreCanonical (suc c) cs
+      → path_some (bound_at e c a) t + path_below a cs ≤ path_below a (child c t cs)
+  step-path e c Unbounded t cs w = omega arith
+  step-path e c (Included s) t cs w = step-with e true c s t cs w
+  step-path e c (Excluded s) t cs w = step-with e false c s t cs w
+
+  few-at : (a b : Option (Bound (List ℕ))) (t : Trie V)
+      → most_at a b t ≤ path_some a t + path_some b t + 2 * count_in a b (pairs_of t)
+  few-at None b t = omega arith
+  few-at (Some a) None t = omega arith
+  few-at (Some a) (Some b) t = omega arith
+
+  few-below : (low : ℕ) (a b : Bound (List ℕ)) (cs : Children V) → AreCanonical low cs → most_below a b cs
+      ≤ path_below a cs + path_below b cs + 2 * count_in (Some a) (Some b) (children_pairs cs)
+  few-below low a b no_children w = omega arith
+  few-below low a b (child c t cs) w = omega (
+    arith,
+    few-at (bound_at First c a) (bound_at Last c b) t,
+    step-path First c a t cs w.3,
+    step-path Last c b t cs w.3,
+    count-append (Some a) (Some b) (pairs_of t) (children_pairs cs),
+    count-at a b c (pairs_of t) (pairs_of-first c t w.1),
+    few-below (suc c) a b cs w.3,
+  )
+
+  -- a node of which no key is within one of the bounds
+  pub outside : (a b : Bound (List ℕ)) (t : Trie V) → (bound_past First (prefix_of t) a ≡ None)
+      → count_in (Some a) (Some b) (pairs_of t) ≡ 0
+  outside a b (node p v n cs) q = count-past a b p (own_pair v ++ children_pairs cs)
+      ∙ ap (λ z. count_in z (bound_past Last p b) (own_pair v ++ children_pairs cs)) q
+      ∙ none-start (bound_past Last p b) (own_pair v ++ children_pairs cs)
+
+  pub outside-end : (a b : Bound (List ℕ)) (t : Trie V) → (bound_past Last (prefix_of t) b ≡ None)
+      → count_in (Some a) (Some b) (pairs_of t) ≡ 0
+  outside-end a b (node p v n cs) q = count-past a b p (own_pair v ++ children_pairs cs)
+      ∙ ap (λ z. count_in (bound_past First p a) z (own_pair v ++ children_pairs cs)) q
+      ∙ none-end (bound_past First p a) (own_pair v ++ children_pairs cs)
+
+  -- at another: its own pair and those of its children are counted by what is left of the bounds
+  pub inside : (a b o u : Bound (List ℕ)) (t : Trie V) → bound_past First (prefix_of t) a ≡ Some o
+      → bound_past Last (prefix_of t) b ≡ Some u → count_in (Some a) (Some b) (pairs_of t)
+      ≡ count_in (Some o) (Some u) (own_pair (value_of t) ++ children_pairs (children_in t))
+  inside a b o u (node p v n cs) q r = count-past a b p (own_pair v ++ children_pairs cs)
+      ∙ ap₂ (λ x y. count_in x y (own_pair v ++ children_pairs cs)) q r
+
+  -- the visits of a node that is on the path to a bound
+  pub visits-outside : (a b : Bound (List ℕ)) (t : Trie V) (x y : Bool) → x ≡ has_bytes a → y ≡ has_bytes b
+      → (x ≡ false → y ≡ true) → 1 ≤ path_count a t + path_count b t
+  visits-outside a b t true y e f h = omega (arith, path-some a t, ap one_if e)
+  visits-outside a b t false y e f h = omega (arith, path-some b t, ap one_if (sym (h refl) ∙ f))
+
+  pub visits-inside : (a b o u : Bound (List ℕ)) (t : Trie V) (x y : Bool) → x ≡ has_bytes a → y ≡ has_bytes b
+      → (x ≡ false → y ≡ true) → is_canonical t ≡ true → bound_past First (prefix_of t) a ≡ Some o
+      → bound_past Last (prefix_of t) b ≡ Some u → 1 + most_below o u (children_in t)
+      ≤ path_count a t + path_count b t + 2 * count_in (Some a) (Some b) (pairs_of t)
+  visits-inside a b o u (node p v n cs) x y e f h c q r = omega (
+    arith,
+    some x e h,
+    path-past First a o (node p v n cs) q,
+    path-past Last b u (node p v n cs) r,
+    few-below 0 o u cs (IsCanonical-test (node p v n cs) c).2,
+    inside a b o u (node p v n cs) q r,
+    count-append (Some o) (Some u) (own_pair v) (children_pairs cs),
+  )
+    where
+      some : (x : Bool) → x ≡ has_bytes a → (x ≡ false → y ≡ true) → 1 ≤ one_if (has_bytes a) + one_if (has_bytes b)
+      some true e h = omega (arith, ap one_if e)
+      some false e h = omega (arith, ap one_if (sym (h refl) ∙ f))
+
+  -- the whole paths
+  pub path-probes : (a : Bound (List ℕ)) (t : Trie V) (o : Option (Trie V)) → is_canonical t ≡ true → Some t ≡ o
+      → (path_count a t ≤ probe_count (keys_of (tree_pairs o)) (bound_bytes a))
+      × (path_count a t ≤ length (bound_bytes a) + 1)
+  path-probes Unbounded t o c e = (omega arith, omega arith)
+  path-probes (Included s) t o c e = let r = root-entered s t o c e in (omega (arith, r.0), r.1)
+  path-probes (Excluded s) t o c e = let r = root-entered s t o c e in (omega (arith, r.0), r.1)
