@@ -175,23 +175,23 @@ fn count_within<P: Partial, V, C: Count>(
     if !is_bounded(start) && !is_bounded(end) {
         return count_below(at, counter);
     }
-    let Some(start) = after_prefix(End::First, at.prefix(), start) else {
+    let Some(low) = after_prefix(End::First, at.prefix(), start) else {
         return 0;
     };
-    let Some(end) = after_prefix(End::Last, at.prefix(), end) else {
+    let Some(high) = after_prefix(End::Last, at.prefix(), end) else {
         return 0;
     };
-    let mut count = count_own(at, start, end);
+    let mut count = count_own(at, low, high);
     let mut rest = at.branches();
     while let Some((byte, child)) = rest.next_child() {
-        let Some(start) = at_child(End::First, byte, start) else {
+        let Some(child_low) = at_child(End::First, byte, low) else {
             continue;
         };
-        let Some(end) = at_child(End::Last, byte, end) else {
-            // the keys of the other children are past the end too
-            break;
+        let Some(child_high) = at_child(End::Last, byte, high) else {
+            // the keys of the children after this one are past the end too
+            return count;
         };
-        count += count_within(child.enter(counter), start, end, counter);
+        count += count_within(child.enter(counter), child_low, child_high, counter);
     }
     count
 }
