@@ -61,6 +61,12 @@ in-other Last h Less k n = refl
 in-other Last h Equal k n = absurd (n refl)
 in-other Last h Greater k n = refl
 
+less-unequal : Less ≡ Equal → ⊥
+less-unequal q = cc
+
+greater-unequal : Greater ≡ Equal → ⊥
+greater-unequal q = cc
+
 past-with : (e : End) (h : Bool) (p s k : List ℕ) → is_in e (bound_with h s) (p ++ k)
     ≡ is_in_some e (rest_past e (slice_cmp nat_cmp p s) h (strip_prefix p s)) k
 past-with e h p s k = elim (strip_prefix p s) as (λ z. strip_prefix p s ≡ z → is_in e (bound_with h s) (p ++ k)
@@ -80,15 +86,15 @@ in-past e p (Excluded s) k = past-with e false p s k
 at-with : (e : End) (h : Bool) (c : ℕ) (s k : List ℕ) → StartsWith c k
     → is_in e (bound_with h s) k ≡ is_in_some e (bound_by e (bound_with h s) (first_cmp c s)) k
 at-with e h c s [] f = absurd f
-at-with e h c [] (x ∷ k) f = in-with e h [] (x ∷ k) ∙ in-other e h Greater (x ∷ k) (λ q. absurd (cc))
+at-with e h c [] (x ∷ k) f = in-with e h [] (x ∷ k) ∙ in-other e h Greater (x ∷ k) greater-unequal
 at-with e h c (b ∷ s) (x ∷ k) f = ⊎_elim
     (λ l. let t : slice_cmp nat_cmp (x ∷ k) (b ∷ s) ≡ Less = rw (is_less x b (omega (arith, f, l))) refl in
     rw (is_less c b l) (in-with e h (b ∷ s) (x ∷ k) ∙ ap (is_by e h) t
-    ∙ in-other e h Less (x ∷ k) (λ q. absurd (cc))))
+    ∙ in-other e h Less (x ∷ k) less-unequal))
     (⊎_elim (λ q. rw (is_equal c b q) refl)
     (λ l. let t : slice_cmp nat_cmp (x ∷ k) (b ∷ s) ≡ Greater = rw (is_greater x b (omega (arith, f, l))) refl in
     rw (is_greater c b l) (in-with e h (b ∷ s) (x ∷ k) ∙ ap (is_by e h) t
-    ∙ in-other e h Greater (x ∷ k) (λ q. absurd (cc))))) (order c b)
+    ∙ in-other e h Greater (x ∷ k) greater-unequal))) (order c b)
 
 -- after a byte
 in-at : (e : End) (c : ℕ) (a : Bound (List ℕ)) (k : List ℕ) → StartsWith c k
@@ -113,6 +119,16 @@ pub no-bytes : (a : Bound (List ℕ)) → has_bytes a ≡ false → a ≡ Unboun
 no-bytes Unbounded h = refl
 no-bytes (Included s) h = absurd (cc)
 no-bytes (Excluded s) h = absurd (cc)
+
+-- 1 where there is a bound
+abbrev one_if : Bool → ℕ
+one_if true = 1
+one_if false = 0
+
+some-by : (r : Option (List ℕ)) (f : ℕ → List ℕ → ℕ) → 1 ≤ by_rest 1 1 (λ n. 1 + n) r f
+some-by None f = omega arith
+some-by (Some []) f = omega arith
+some-by (Some (b ∷ r)) f = omega arith
 
 -- whether a key is within both bounds, if there are both
 abbrev is_in_both : Option (Bound (List ℕ)) → Option (Bound (List ℕ)) → List ℕ → Bool
@@ -246,11 +262,6 @@ module _ {V : Type 0} where
   rest-path e o h (Some r) a cs q = let i : bound_with h r ≡ a = cc in
       rw (← i, below-with h r cs) (path-followed r cs)
 
-  -- one more than the others, where there is a bound
-  abbrev one_if : Bool → ℕ
-  one_if true = 1
-  one_if false = 0
-
   path-past : (e : End) (a o : Bound (List ℕ)) (t : Trie V) → bound_past e (prefix_of t) a ≡ Some o
       → one_if (has_bytes a) + path_below o (children_in t) ≤ path_count a t
   path-past e Unbounded o t q = let i : Unbounded ≡ o = cc in rw (← i) (omega arith)
@@ -258,11 +269,6 @@ module _ {V : Type 0} where
       = omega (arith, rest-path e (slice_cmp nat_cmp p s) true (strip_prefix p s) o cs q)
   path-past e (Excluded s) o (node p v n cs) q
       = omega (arith, rest-path e (slice_cmp nat_cmp p s) false (strip_prefix p s) o cs q)
-
-  some-by : (r : Option (List ℕ)) (f : ℕ → List ℕ → ℕ) → 1 ≤ by_rest 1 1 (λ n. 1 + n) r f
-  some-by None f = omega arith
-  some-by (Some []) f = omega arith
-  some-by (Some (b ∷ r)) f = omega arith
 
   path-some : (a : Bound (List ℕ)) (t : Trie V) → one_if (has_bytes a) ≤ path_count a t
   path-some Unbounded t = omega arith
