@@ -1,7 +1,7 @@
 -- How many pairs at and below a node are within two bounds, and how many nodes are visited to count them.
 use Rattle.std.proofs.Common.{◌≡◌, ℕ, suc, ◌+◌, ◌*◌, ◌<◌, ◌≤◌, ⊎_elim, ◌&&◌, Bool, true, false, List, [], ◌∷◌, ◌++◌}
 use Rattle.std.proofs.Common.{length, length-append, Option, Some, None, refl, sym, ap, ap₂, ◌∙◌, arith, if◌then◌else◌}
-use Rattle.std.proofs.Common.{Less, Equal, Greater}
+use Rattle.std.proofs.Common.{Less, Equal, Greater, ◌||◌, subst}
 use Rattle.std.specs.List.{filter}
 use Rattle.std.specs.Ordering.{nat_cmp, match_ordering}
 use Rattle.std.specs.Cmp.Lexicographic.{slice_cmp}
@@ -23,7 +23,7 @@ use Rattle.rart_trie.specs.tries.Trie.{Trie, node, Children, no_children, child,
 use Rattle.rart_trie.specs.tries.Trie.{children_in, value_of, prefix_of, with_prefix, StartsWith, AreCanonical, by_rest}
 use Rattle.rart_trie.specs.tries.Trie.{descend_child, descend_tree}
 use Rattle.rart_trie.specs.walks.ProbeCount.{counts, entered_nodes, probe_count}
-use Rattle.rart_trie.proofs.tries.CanonicalTests.{IsCanonical-test}
+use Rattle.rart_trie.proofs.tries.CanonicalTests.{IsCanonical-test, canonical-lower}
 use Rattle.rart_trie.proofs.tries.Descents.{child_of-low, descend-child_of}
 use Rattle.rart_trie.proofs.tries.FirstBytes.{AllFirst, pairs_of-first}
 use Rattle.rart_trie.proofs.tries.StepLemmas.{root-entered}
@@ -115,7 +115,7 @@ later-none (Excluded (x ∷ s)) c d l h = ⊎_elim (λ i. let g = rw (is_less c 
     (⊎_elim (λ i. let g = rw (is_equal c x i) at h in absurd (cc))
     (λ i. rw (is_greater d x (omega (arith, i, l))) refl)) (order c x)
 
-pub no-bytes : (a : Bound (List ℕ)) → has_bytes a ≡ false → a ≡ Unbounded
+no-bytes : (a : Bound (List ℕ)) → has_bytes a ≡ false → a ≡ Unbounded
 no-bytes Unbounded h = refl
 no-bytes (Included s) h = absurd (cc)
 no-bytes (Excluded s) h = absurd (cc)
@@ -129,6 +129,15 @@ some-by : (r : Option (List ℕ)) (f : ℕ → List ℕ → ℕ) → 1 ≤ by_re
 some-by None f = omega arith
 some-by (Some []) f = omega arith
 some-by (Some (b ∷ r)) f = omega arith
+
+one-of : (x y : Bool) → x || y ≡ true → 1 ≤ one_if x + one_if y
+one-of true y h = omega arith
+one-of false true h = omega arith
+one-of false false h = absurd (cc)
+
+none-of : (x y : Bool) → x || y ≡ false → (x ≡ false) × (y ≡ false)
+none-of true y h = absurd (cc)
+none-of false y h = (refl, h)
 
 -- whether a key is within both bounds, if there are both
 abbrev is_in_both : Option (Bound (List ℕ)) → Option (Bound (List ℕ)) → List ℕ → Bool
@@ -149,16 +158,22 @@ module _ {V : Type 0} where
       as (λ z. length (if z && false then e ∷ filter (λ x. is_in_both a None x.0) es
       else filter (λ x. is_in_both a None x.0) es) ≡ 0) [ true ↦ none-end a es | false ↦ none-end a es ]
 
-  pub all-in : (es : List (List ℕ × V)) → count_in (Some Unbounded) (Some Unbounded) es ≡ length es
+  all-in : (es : List (List ℕ × V)) → count_in (Some Unbounded) (Some Unbounded) es ≡ length es
   all-in [] = refl
   all-in (e ∷ es) = ap suc (all-in es)
+
+  -- without a bound each is
+  pub all-counted : (a b : Bound (List ℕ)) (es : List (List ℕ × V)) → has_bytes a || has_bytes b ≡ false
+      → count_in (Some a) (Some b) es ≡ length es
+  all-counted a b es h = let n = none-of (has_bytes a) (has_bytes b) h in
+      rw (no-bytes a n.0, no-bytes b n.1) (all-in es)
 
   count-append : (a b : Option (Bound (List ℕ))) (xs ys : List (List ℕ × V))
       → count_in a b (xs ++ ys) ≡ count_in a b xs + count_in a b ys
   count-append a b xs ys = ap length (filter-append (λ e. is_in_both a b e.0) xs ys)
       ∙ length-append (filter (λ e. is_in_both a b e.0) xs) (filter (λ e. is_in_both a b e.0) ys)
 
-  count-few : (a b : Option (Bound (List ℕ))) (es : List (List ℕ × V)) → count_in a b es ≤ length es
+  pub count-few : (a b : Option (Bound (List ℕ))) (es : List (List ℕ × V)) → count_in a b es ≤ length es
   count-few a b [] = omega arith
   count-few a b (e ∷ es) = elim (is_in_both a b e.0)
       as (λ z. length (if z then e ∷ filter (λ x. is_in_both a b x.0) es else filter (λ x. is_in_both a b x.0) es)
@@ -191,7 +206,7 @@ module _ {V : Type 0} where
       [ true ↦ ap suc rest | false ↦ rest ]
 
   -- past the end
-  pub none-later : (a b : Bound (List ℕ)) (c low : ℕ) (cs : Children V) → c ≤ low → AreCanonical low cs
+  none-later : (a b : Bound (List ℕ)) (c low : ℕ) (cs : Children V) → c ≤ low → AreCanonical low cs
       → bound_at Last c b ≡ None → count_in (Some a) (Some b) (children_pairs cs) ≡ 0
   none-later a b c low no_children l w n = refl
   none-later a b c low (child d t cs) l w n = omega (
@@ -333,28 +348,75 @@ module _ {V : Type 0} where
       ∙ ap₂ (λ x y. count_in x y (own_pair v ++ children_pairs cs)) q r
 
   -- the visits of a node that is on the path to a bound
-  pub visits-outside : (a b : Bound (List ℕ)) (t : Trie V) (x y : Bool) → x ≡ has_bytes a → y ≡ has_bytes b
-      → (x ≡ false → y ≡ true) → 1 ≤ path_count a t + path_count b t
-  visits-outside a b t true y e f h = omega (arith, path-some a t, ap one_if e)
-  visits-outside a b t false y e f h = omega (arith, path-some b t, ap one_if (sym (h refl) ∙ f))
+  pub visits-outside : (a b : Bound (List ℕ)) (t : Trie V) → has_bytes a || has_bytes b ≡ true
+      → 1 ≤ path_count a t + path_count b t
+  visits-outside a b t h
+      = omega (arith, path-some a t, path-some b t, one-of (has_bytes a) (has_bytes b) h)
 
-  pub visits-inside : (a b o u : Bound (List ℕ)) (t : Trie V) (x y : Bool) → x ≡ has_bytes a → y ≡ has_bytes b
-      → (x ≡ false → y ≡ true) → is_canonical t ≡ true → bound_past First (prefix_of t) a ≡ Some o
-      → bound_past Last (prefix_of t) b ≡ Some u → 1 + most_below o u (children_in t)
+  pub visits-inside : (a b o u : Bound (List ℕ)) (t : Trie V) → has_bytes a || has_bytes b ≡ true
+      → is_canonical t ≡ true → bound_past First (prefix_of t) a ≡ Some o → bound_past Last (prefix_of t) b ≡ Some u
+      → 1 + most_below o u (children_in t)
       ≤ path_count a t + path_count b t + 2 * count_in (Some a) (Some b) (pairs_of t)
-  visits-inside a b o u (node p v n cs) x y e f h c q r = omega (
+  visits-inside a b o u (node p v n cs) h c q r = omega (
     arith,
-    some x e h,
+    one-of (has_bytes a) (has_bytes b) h,
     path-past First a o (node p v n cs) q,
     path-past Last b u (node p v n cs) r,
     few-below 0 o u cs (IsCanonical-test (node p v n cs) c).2,
     inside a b o u (node p v n cs) q r,
     count-append (Some o) (Some u) (own_pair v) (children_pairs cs),
   )
-    where
-      some : (x : Bool) → x ≡ has_bytes a → (x ≡ false → y ≡ true) → 1 ≤ one_if (has_bytes a) + one_if (has_bytes b)
-      some true e h = omega (arith, ap one_if e)
-      some false e h = omega (arith, ap one_if (sym (h refl) ∙ f))
+
+  -- the next of the children: it is passed, or its pairs are counted, or it ends the count
+  pub rest-canonical : (d : ℕ) (v : Trie V) (cs ds : Children V) → cs ≡ child d v ds → AreCanonical 0 cs
+      → AreCanonical 0 ds
+  rest-canonical d v cs ds e w = canonical-lower 0 (suc d) ds (omega arith) (subst (AreCanonical 0) e w).3
+
+  pub fewer-pairs : (d : ℕ) (v : Trie V) (cs ds : Children V) → cs ≡ child d v ds
+      → length (pairs_of v) + length (children_pairs ds) ≡ length (children_pairs cs)
+  fewer-pairs d v cs ds e = rw e (sym (length-append (pairs_of v) (children_pairs ds)))
+
+  next-count : (o u : Bound (List ℕ)) (d : ℕ) (v : Trie V) (cs ds : Children V) → cs ≡ child d v ds
+      → AreCanonical 0 cs → count_in (Some o) (Some u) (children_pairs cs)
+      ≡ count_in (bound_at First d o) (bound_at Last d u) (pairs_of v) + count_in (Some o) (Some u) (children_pairs ds)
+  next-count o u d v cs ds e w = omega (
+    arith,
+    ap (λ z. count_in (Some o) (Some u) (children_pairs z)) e,
+    count-append (Some o) (Some u) (pairs_of v) (children_pairs ds),
+    count-at o u d (pairs_of v) (pairs_of-first d v (subst (AreCanonical 0) e w).1),
+  )
+
+  pub passed : (o u : Bound (List ℕ)) (d : ℕ) (v : Trie V) (cs ds : Children V) → cs ≡ child d v ds
+      → AreCanonical 0 cs → None ≡ bound_at First d o
+      → (count_in (Some o) (Some u) (children_pairs cs) ≡ count_in (Some o) (Some u) (children_pairs ds))
+      × (most_below o u cs ≡ most_below o u ds)
+  passed o u d v cs ds e w n = (
+    omega (
+      arith,
+      next-count o u d v cs ds e w,
+      ap (λ z. count_in z (bound_at Last d u) (pairs_of v)) n,
+      none-start (bound_at Last d u) (pairs_of v),
+    ),
+    omega (arith, ap (most_below o u) e, ap (λ z. most_at z (bound_at Last d u) v) n),
+  )
+
+  pub counted : (o u p q : Bound (List ℕ)) (d : ℕ) (v : Trie V) (cs ds : Children V) → cs ≡ child d v ds
+      → AreCanonical 0 cs → Some p ≡ bound_at First d o → Some q ≡ bound_at Last d u
+      → (count_in (Some o) (Some u) (children_pairs cs)
+      ≡ count_in (Some p) (Some q) (pairs_of v) + count_in (Some o) (Some u) (children_pairs ds))
+      × (most_below o u cs
+      ≡ path_count p v + path_count q v + 2 * count_in (Some p) (Some q) (pairs_of v) + most_below o u ds)
+  counted o u p q d v cs ds e w m n = (
+    next-count o u d v cs ds e w
+        ∙ ap₂ (λ x y. count_in x y (pairs_of v) + count_in (Some o) (Some u) (children_pairs ds)) (sym m) (sym n),
+    ap (most_below o u) e ∙ ap₂ (λ x y. most_at x y v + most_below o u ds) (sym m) (sym n),
+  )
+
+  pub ended : (o u : Bound (List ℕ)) (d : ℕ) (v : Trie V) (cs ds : Children V) → cs ≡ child d v ds
+      → AreCanonical 0 cs → None ≡ bound_at Last d u → count_in (Some o) (Some u) (children_pairs cs) ≡ 0
+  ended o u d v cs ds e w n = let x = subst (AreCanonical 0) e w in
+      ap (λ z. count_in (Some o) (Some u) (children_pairs z)) e
+      ∙ none-later o u d d (child d v ds) (omega arith) (omega arith, x.1, x.2, x.3) (sym n)
 
   -- the whole paths
   pub path-probes : (a : Bound (List ℕ)) (t : Trie V) (o : Option (Trie V)) → is_canonical t ≡ true → Some t ≡ o

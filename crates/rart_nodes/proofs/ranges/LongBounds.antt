@@ -1,12 +1,11 @@
 -- Bounds with more bytes than any key has.
 use Rattle.std.proofs.Common.{◌≡◌, ℕ, zero, suc, ◌<◌, ◌≤◌, ⊎_elim, ◌&&◌, Bool, true, false, List, [], ◌∷◌, length, take}
-use Rattle.std.proofs.Common.{refl, ap, ap₂, ◌∙◌, ◌⊎◌, inl, inr, arith, Option, Some, None, if◌then◌else◌}
+use Rattle.std.proofs.Common.{refl, ap, ap₂, ◌∙◌, ◌⊎◌, inl, inr, arith, if◌then◌else◌}
 use Rattle.std.specs.List.{filter}
 use Rattle.std.specs.Ordering.{nat_cmp, match_ordering}
 use Rattle.std.specs.Cmp.Lexicographic.{slice_cmp}
 use Rattle.std.specs.declared.ops.Bound.{Bound}
 use Rattle.std.proofs.lemmas.List.{take_all}
-use Rattle.rart_keys.specs.KeyBytes.{IsWithin}
 use Rattle.rart_keys.specs.Ranges.{between, is_from, is_from_bound, is_to, is_until}
 use Rattle.rart_keys.specs.SortedMap.{longest_key}
 use Rattle.rart_keys.proofs.strings.ByteOrder.{order, is_less, is_equal, is_greater}
@@ -47,10 +46,6 @@ from-cut h m s k l g = cmp-cut false true h m k s l g
 pub from-excluded : (m : ℕ) (s k : List ℕ) → length k ≤ m → is_from_bound false (take m s) k ≡ is_from_bound false s k
 from-excluded m s k l
     = ⊎_elim (λ h. from-short false m s k h) (λ h. from-cut false m s k l h) (short-or-long m (length s))
-
-pub within-less : (o : Option ℕ) (m n : ℕ) → IsWithin o m → n ≤ m → IsWithin o n
-within-less None m n w l = tt
-within-less (Some x) m n w l = omega (arith, w, l)
 
 module _ {V : Type 0} where
   -- bounds that agree on keys of at most m bytes

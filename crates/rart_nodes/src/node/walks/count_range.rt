@@ -5,7 +5,7 @@
 
 ghost use Rattle.std.specs.Cmp.Lexicographic.{slice_cmp};
 ghost use Rattle.std.specs.Ordering.{nat_cmp};
-ghost use Rattle.std.specs.Prelude.{◌≡◌, ◌≤◌, ◌+◌, ◌*◌, ◌&&◌, [], length, option_map};
+ghost use Rattle.std.specs.Prelude.{◌≡◌, ◌≤◌, ◌+◌, ◌*◌, ◌||◌, [], length, option_map};
 ghost use Rattle.rart_keys.specs.ByteStrings.{strip_prefix};
 ghost use Rattle.rart_keys.specs.Ranges.{between, bound_in};
 ghost use Rattle.rart_nodes.specs.ranges.BoundCuts.{bound_at, bound_by, bound_past, bound_with, first_cmp, has_bytes};
@@ -44,6 +44,13 @@ fn is_bounded(bound: Bound<&[u8]>) -> bool
         Bound::Excluded(_) => true,
         Bound::Unbounded => false,
     }
+}
+
+/// Returns whether one of two bounds has bytes.
+fn is_range(start: Bound<&[u8]>, end: Bound<&[u8]>) -> bool
+    ensures { result ≡ has_bytes (lent_bound start.entry) || has_bytes (lent_bound end.entry) }
+{
+    is_bounded(start) || is_bounded(end)
 }
 
 /// Returns whether the empty key is within a bound.
@@ -172,7 +179,7 @@ fn count_within<P: Partial, V, C: Count>(
         + 2 * length (between (lent_bound start.entry) (lent_bound end.entry)
         (pairs_of at.entry.node.now)) }
 {
-    if !is_bounded(start) && !is_bounded(end) {
+    if !is_range(start, end) {
         return count_below(at, counter);
     }
     let Some(low) = after_prefix(End::First, at.prefix(), start) else {
