@@ -18,6 +18,7 @@ use Rattle.rart_keys.proofs.maps.RangeLemmas.{cmp-apart, cmp-past, not-same}
 use Rattle.rart_trie.specs.declared.node.ends.End.{End}
 use Rattle.rart_trie.specs.declared.node.ends.End.TheVariants.{First, Last}
 use Rattle.rart_trie.specs.tries.CanonicalTest.{is_canonical}
+use Rattle.rart_trie.specs.tries.PrefixLaws.{length-with_prefix}
 use Rattle.rart_trie.specs.tries.Tree.{tree_pairs}
 use Rattle.rart_trie.specs.tries.Trie.{Trie, node, Children, no_children, child, pairs_of, children_pairs, own_pair}
 use Rattle.rart_trie.specs.tries.Trie.{children_in, value_of, prefix_of, with_prefix, StartsWith, AreCanonical, by_rest}
@@ -375,6 +376,13 @@ module _ {V : Type 0} where
   pub fewer-pairs : (d : ℕ) (v : Trie V) (cs ds : Children V) → cs ≡ child d v ds
       → length (pairs_of v) + length (children_pairs ds) ≡ length (children_pairs cs)
   fewer-pairs d v cs ds e = rw e (sym (length-append (pairs_of v) (children_pairs ds)))
+
+  pub few-children : (t : Trie V) → length (children_pairs (children_in t)) ≤ length (pairs_of t)
+  few-children (node p v n cs) = omega (
+    arith,
+    length-with_prefix p (own_pair v ++ children_pairs cs),
+    length-append (own_pair v) (children_pairs cs),
+  )
 
   next-count : (o u : Bound (List ℕ)) (d : ℕ) (v : Trie V) (cs ds : Children V) → cs ≡ child d v ds
       → AreCanonical 0 cs → count_in (Some o) (Some u) (children_pairs cs)

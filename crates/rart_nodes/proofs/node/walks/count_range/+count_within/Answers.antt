@@ -7,11 +7,9 @@ use Rattle.rart_trie.specs.tries.TrieCode.{node_count}
 use Rattle.rart_trie.proofs.tries.CanonicalTests.{IsCanonical-test}
 use Rattle.rart_nodes.proofs.joins.AlignmentLemmas.{fewer-below, fewer-left}
 use Rattle.rart_nodes.proofs.ranges.CountedBounds.{all-counted, count-few, count_in, counted, ended, fewer-pairs, inside}
-use Rattle.rart_nodes.proofs.ranges.CountedBounds.{outside, outside-end, passed, rest-canonical, visits-inside}
-use Rattle.rart_nodes.proofs.ranges.CountedBounds.{visits-outside}
+use Rattle.rart_nodes.proofs.ranges.CountedBounds.{few-children, outside, outside-end, passed}
+use Rattle.rart_nodes.proofs.ranges.CountedBounds.{rest-canonical, visits-inside, visits-outside}
 use Rattle.rart_nodes.proofs.walks.PartLemmas.{few-count}
-use Rattle.rart_nodes.proofs.node.walks.count_range.+count_within.Given.{Over}
-use Rattle.rart_nodes.proofs.node.walks.count_range.+count_within.Goals.{In-Some, In-Some-after_prefix}
 use Rattle.rart_nodes.proofs.node.walks.count_range.+count_within.Goals as goal
 
 -- without a bound all are counted
@@ -54,3 +52,156 @@ returns-in_default-after_prefix-clause-visits g t c = omega (
   visits-outside (lent_bound c.args.start) (lent_bound c.args.end) c.args.at.node.now
       (sym c.is_range.ensures ∙ c.if-not-is_range.false),
 )
+
+-- a child before the start
+pub loop-byte-preserved-in_default-at_child : goal.loop-byte-preserved-in_default-at_child
+loop-byte-preserved-in_default-at_child g t c =
+    let w = c.loop-byte.invariant in
+    let e = c.in-Some-next_child.ensures in
+    let p = passed (lent_bound c.in-Some.low) (lent_bound c.in-Some-after_prefix.high) _ _ _ _ e w.canonical
+    c.in_default-at_child.ensures in
+    record {
+      count = omega (arith, w.count, p.0);
+      visits = omega (arith, w.visits, p.1);
+      pairs = omega (arith, w.pairs, fewer-pairs _ _ _ _ e);
+      within = omega (arith, w.within, fewer-left _ _ _ _ e);
+      canonical = rest-canonical _ _ _ _ e w.canonical;
+    }
+
+-- a child past the end
+pub returns-in_default-at_child-2-clause-value : goal.returns-in_default-at_child-2-clause-value
+returns-in_default-at_child-2-clause-value g t c =
+    let a = lent_bound c.args.start in
+    let b = lent_bound c.args.end in
+    let o = lent_bound c.in-Some.low in
+    let u = lent_bound c.in-Some-after_prefix.high in
+    let q : bound_past First (prefix_of c.args.at.node.now) a ≡ Some o
+    = ap (λ z. bound_past First z a) (sym c.prefix.ensures) ∙ sym c.in-Some.ensures in
+    let r : bound_past Last (prefix_of c.args.at.node.now) b ≡ Some u
+    = ap (λ z. bound_past Last z b) (sym c.prefix-2.ensures) ∙ sym c.in-Some-after_prefix.ensures in
+    omega (
+      arith,
+      c.loop-byte.invariant.count,
+      ended o u _ _ _ _ c.in-Some-next_child.ensures c.loop-byte.invariant.canonical c.in_default-at_child-2.ensures,
+      inside a b o u c.args.at.node.now q r,
+    )
+
+pub returns-in_default-at_child-2-clause-visits : goal.returns-in_default-at_child-2-clause-visits
+returns-in_default-at_child-2-clause-visits g t c =
+    let a = lent_bound c.args.start in
+    let b = lent_bound c.args.end in
+    let o = lent_bound c.in-Some.low in
+    let u = lent_bound c.in-Some-after_prefix.high in
+    let q : bound_past First (prefix_of c.args.at.node.now) a ≡ Some o
+    = ap (λ z. bound_past First z a) (sym c.prefix.ensures) ∙ sym c.in-Some.ensures in
+    let r : bound_past Last (prefix_of c.args.at.node.now) b ≡ Some u
+    = ap (λ z. bound_past Last z b) (sym c.prefix-2.ensures) ∙ sym c.in-Some-after_prefix.ensures in
+    omega (
+      arith,
+      c.loop-byte.invariant.visits,
+      visits-inside a b o u c.args.at.node.now (sym c.is_range.ensures ∙ c.if-not-is_range.false) c.args.at.canonical q r,
+    )
+
+-- a child that is counted
+pub count_within-count-requires : goal.count_within-count-requires
+count_within-count-requires g t c κs within =
+    let next = c.in-Some-next_child.ensures in
+    let left = c.loop-byte.invariant in (
+      omega (
+        arith,
+        c.decreases,
+        fewer-below c.args.at.node.now _ _ _ _ next left.within,
+        ap node_count c.enter.ensures.shown,
+      ),
+      (
+        within.0,
+        (
+          within.1.0,
+          (
+            within.1.1,
+            omega (
+              arith,
+              ap (λ z. length (pairs_of z)) c.enter.ensures.shown,
+              fewer-pairs _ _ _ _ next,
+              left.pairs,
+              few-children c.args.at.node.now,
+              c.requires,
+            ),
+          ),
+        ),
+      ),
+    )
+
+pub overflow_add-count : goal.overflow_add-count
+overflow_add-count g t c =
+    let a = lent_bound c.args.start in
+    let b = lent_bound c.args.end in
+    let o = lent_bound c.in-Some.low in
+    let u = lent_bound c.in-Some-after_prefix.high in
+    let q : bound_past First (prefix_of c.args.at.node.now) a ≡ Some o
+    = ap (λ z. bound_past First z a) (sym c.prefix.ensures) ∙ sym c.in-Some.ensures in
+    let r : bound_past Last (prefix_of c.args.at.node.now) b ≡ Some u
+    = ap (λ z. bound_past Last z b) (sym c.prefix-2.ensures) ∙ sym c.in-Some-after_prefix.ensures in
+    let given = rw c.enter.ensures.shown at c.count_within-count.ensures.value in
+    let p = counted o u (lent_bound c.in-Some-at_child.child_low) (lent_bound c.in-Some-at_child-2.child_high) _ _ _ _
+    c.in-Some-next_child.ensures c.loop-byte.invariant.canonical c.in-Some-at_child.ensures c.in-Some-at_child-2.ensures in
+    omega (
+      arith,
+      given,
+      p.0,
+      c.loop-byte.invariant.count,
+      inside a b o u c.args.at.node.now q r,
+      count-few (Some a) (Some b) (pairs_of c.args.at.node.now),
+      c.requires,
+    )
+
+pub loop-byte-preserved : goal.loop-byte-preserved
+loop-byte-preserved g t c =
+    let w = c.loop-byte.invariant in
+    let e = c.in-Some-next_child.ensures in
+    let given = rw c.enter.ensures.shown at c.count_within-count.ensures.value in
+    let visited = rw c.enter.ensures.shown at c.count_within-count.ensures.visits in
+    let p = counted (lent_bound c.in-Some.low) (lent_bound c.in-Some-after_prefix.high)
+    (lent_bound c.in-Some-at_child.child_low) (lent_bound c.in-Some-at_child-2.child_high) _ _ _ _ e w.canonical
+    c.in-Some-at_child.ensures c.in-Some-at_child-2.ensures in
+    record {
+      count = omega (arith, w.count, p.0, given);
+      visits = omega (arith, w.visits, p.1, visited, c.enter.ensures.counted);
+      pairs = omega (arith, w.pairs, fewer-pairs _ _ _ _ e);
+      within = omega (arith, w.within, fewer-left _ _ _ _ e);
+      canonical = rest-canonical _ _ _ _ e w.canonical;
+    }
+
+-- no child is left
+pub returns-clause-value : goal.returns-clause-value
+returns-clause-value g t c =
+    let a = lent_bound c.args.start in
+    let b = lent_bound c.args.end in
+    let o = lent_bound c.in-Some.low in
+    let u = lent_bound c.in-Some-after_prefix.high in
+    let q : bound_past First (prefix_of c.args.at.node.now) a ≡ Some o
+    = ap (λ z. bound_past First z a) (sym c.prefix.ensures) ∙ sym c.in-Some.ensures in
+    let r : bound_past Last (prefix_of c.args.at.node.now) b ≡ Some u
+    = ap (λ z. bound_past Last z b) (sym c.prefix-2.ensures) ∙ sym c.in-Some-after_prefix.ensures in
+    omega (
+      arith,
+      c.loop-byte.invariant.count,
+      ap (λ z. count_in (Some o) (Some u) (children_pairs z)) c.in_default-next_child.ensures.0,
+      inside a b o u c.args.at.node.now q r,
+    )
+
+pub returns-clause-visits : goal.returns-clause-visits
+returns-clause-visits g t c =
+    let a = lent_bound c.args.start in
+    let b = lent_bound c.args.end in
+    let o = lent_bound c.in-Some.low in
+    let u = lent_bound c.in-Some-after_prefix.high in
+    let q : bound_past First (prefix_of c.args.at.node.now) a ≡ Some o
+    = ap (λ z. bound_past First z a) (sym c.prefix.ensures) ∙ sym c.in-Some.ensures in
+    let r : bound_past Last (prefix_of c.args.at.node.now) b ≡ Some u
+    = ap (λ z. bound_past Last z b) (sym c.prefix-2.ensures) ∙ sym c.in-Some-after_prefix.ensures in
+    omega (
+      arith,
+      c.loop-byte.invariant.visits,
+      visits-inside a b o u c.args.at.node.now (sym c.is_range.ensures ∙ c.if-not-is_range.false) c.args.at.canonical q r,
+    )
