@@ -2,5 +2,5 @@ use Rattle.rart_nodes.proofs.node.seen.Seen.for_each_range_view_by_ref_counted.G
 
 pub for_each_range_view_by_ref_bytes_counted-requires : goal.for_each_range_view_by_ref_bytes_counted-requires
 for_each_range_view_by_ref_bytes_counted-requires g c = record {
-  callable = rw (c.slice_bound.ensures, c.slice_bound#2.ensures) c.requires.callable;
+  callable = rw (c.slice_bound.ensures, c.slice_bound-2.ensures) c.requires.callable;
 }
