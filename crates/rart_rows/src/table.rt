@@ -1,8 +1,8 @@
 //! The names of the calls.
 
 use crate::names::{
-    Both, Call, Callback, Count, Group, Insertion, Load, Look, Many, Pairs, Probe, Reach, Removal, Route,
-    TableChange, TableEdit, TableRead, Tables, Turns, Values, Views, Whole,
+    Both, Call, Callback, Count, Group, Insertion, Load, Look, Many, Pairs, Probe, Reach, Removal,
+    Route, TableChange, TableEdit, TableRead, Tables, Turns, Values, Views, Whole,
 };
 
 /// A name, its call, and a letter for each argument.

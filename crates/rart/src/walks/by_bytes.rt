@@ -1,4 +1,4 @@
-//! Iterators over the pairs whose key begins with given bytes, and calls of a callback with each, also between bounds of
+//! Iterators over the pairs whose key begins with given bytes, and calls of a callback with each, also within bounds of
 //! given bytes. The bytes may be more than any key has: then no key begins with them.
 ghost use Rattle.std.specs.Prelude.{◌≡◌, IfErr, IfOk, OnErr, OnOk};
 ghost use Rattle.rart_keys.specs.Filters.{below};
@@ -257,12 +257,7 @@ impl<K: KeyTrait, V> AdaptiveRadixTree<K, V> {
     pub fn try_for_each_range_view_by_ref_bytes<
         E,
         F: FnMut(LendingKeyView<'_, '_>, &V) -> Result<VisitControl, E>,
-    >(
-        &self,
-        start: Bound<&[u8]>,
-        end: Bound<&[u8]>,
-        f: &mut F,
-    ) -> Result<(), VisitError<E>>
+    >(&self, start: Bound<&[u8]>, end: Bound<&[u8]>, f: &mut F) -> Result<(), VisitError<E>>
         requires callable { CanTryView F.FnMut f.old
             (cut_between (lent_bound start) (lent_bound end) self.now.pairs) }
         ensures stays_callable { F.IsAlwaysCallable f.old → F.IsAlwaysCallable f.new }
@@ -284,12 +279,7 @@ impl<K: KeyTrait, V> AdaptiveRadixTree<K, V> {
     pub fn try_for_each_range_view_bytes<
         E,
         F: FnMut(LendingKeyView<'_, '_>, &V) -> Result<VisitControl, E> + Drop,
-    >(
-        &self,
-        start: Bound<&[u8]>,
-        end: Bound<&[u8]>,
-        f: F,
-    ) -> Result<(), VisitError<E>>
+    >(&self, start: Bound<&[u8]>, end: Bound<&[u8]>, f: F) -> Result<(), VisitError<E>>
         requires callable { CanTryView F.FnMut f
             (cut_between (lent_bound start) (lent_bound end) self.now.pairs) }
         ensures calls { EndsViewVisitByValue F.FnMut f

@@ -3,7 +3,7 @@ use Rattle.std.proofs.Common.{◌≡◌, ℕ, suc, ◌+◌, ◌*◌, ◌<◌, �
 use Rattle.std.proofs.Common.{length, length-append, Option, Some, None, refl, sym, ap, ap₂, ◌∙◌, arith, if◌then◌else◌}
 use Rattle.std.proofs.Common.{Less, Equal, Greater, ◌||◌, subst}
 use Rattle.std.specs.List.{filter}
-use Rattle.std.specs.Ordering.{nat_cmp, match_ordering}
+use Rattle.std.specs.Ordering.{nat_cmp}
 use Rattle.std.specs.Cmp.Lexicographic.{slice_cmp}
 use Rattle.std.specs.declared.cmp.Ordering.{Ordering}
 use Rattle.std.specs.declared.ops.Bound.{Bound}
@@ -181,8 +181,8 @@ module _ {V : Type 0} where
       ≤ length (e ∷ es)) [ true ↦ omega (arith, count-few a b es) | false ↦ omega (arith, count-few a b es) ]
 
   -- at a node, by what follows its prefix
-  count-past : (a b : Bound (List ℕ)) (p : List ℕ) (es : List (List ℕ × V)) → count_in (Some a) (Some b) (with_prefix p es)
-      ≡ count_in (bound_past First p a) (bound_past Last p b) es
+  count-past : (a b : Bound (List ℕ)) (p : List ℕ) (es : List (List ℕ × V))
+      → count_in (Some a) (Some b) (with_prefix p es) ≡ count_in (bound_past First p a) (bound_past Last p b) es
   count-past a b p es = ap length (filter-map (λ e. (p ++ e.0, e.1))
       (λ e. is_in_both (bound_past First p a) (bound_past Last p b) e.0) (λ e. is_in_both (Some a) (Some b) e.0) es
       (λ e. ap₂ (λ x y. x && y) (in-past First p a e.0) (in-past Last p b e.0)))
@@ -298,8 +298,12 @@ module _ {V : Type 0} where
   step-with e h c (b ∷ s) t cs w = ⊎_elim
       (λ l. rw (is_less c b l, is_greater b c l) (omega (arith, path-unbounded (is_inside e Less) t)))
       (⊎_elim
-      (λ q. rw (is_equal c b q, is_equal b c (sym q), low-absent b (suc c) (b ∷ s) cs (omega (arith, q)) w,
-      count-with h (b ∷ s) t) (omega arith))
+      (λ q. rw (
+        is_equal c b q,
+        is_equal b c (sym q),
+        low-absent b (suc c) (b ∷ s) cs (omega (arith, q)) w,
+        count-with h (b ∷ s) t,
+      ) (omega arith))
       (λ l. rw (is_greater c b l, is_less b c l, low-absent b (suc c) (b ∷ s) cs (omega (arith, l)) w)
       (omega (arith, path-unbounded (is_inside e Greater) t)))) (order c b)
 

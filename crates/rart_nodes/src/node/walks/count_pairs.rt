@@ -13,7 +13,10 @@ use rart_keys::{KeyTrait, Partial};
 use rart_trie::Count;
 
 /// Returns the number of pairs at and below a visited node.
-pub(super) fn count_below<P: Partial, V, C: Count>(node: Entered<'_, P, V, C>, counter: &mut C) -> usize
+pub(super) fn count_below<P: Partial, V, C: Count>(
+    node: Entered<'_, P, V, C>,
+    counter: &mut C,
+) -> usize
     requires { length (pairs_of node.node.now) ≤ usize.MAX }
     ensures value { result ≡ length (pairs_of node.entry.node.now) }
     ensures visits { C.number counter.new + 1

@@ -271,7 +271,13 @@ impl<'a, K: KeyTrait, V, C: Count> Seen<'a, K, V, C> {
     pub fn try_for_each_range_view_by_ref_bytes_counted<
         E,
         F: FnMut(LendingKeyView<'_, '_>, &V) -> Result<VisitControl, E>,
-    >(self, start: Bound<&[u8]>, end: Bound<&[u8]>, f: &mut F, counter: &mut C) -> Result<(), VisitError<E>>
+    >(
+        self,
+        start: Bound<&[u8]>,
+        end: Bound<&[u8]>,
+        f: &mut F,
+        counter: &mut C,
+    ) -> Result<(), VisitError<E>>
         requires callable { CanTryView F.FnMut f.old
             (cut_between (lent_bound start) (lent_bound end) (seen_pairs self)) }
         ensures stays_callable { F.IsAlwaysCallable f.old → F.IsAlwaysCallable f.new }
@@ -317,7 +323,13 @@ impl<'a, K: KeyTrait, V, C: Count> Seen<'a, K, V, C> {
     pub fn try_for_each_range_view_bytes_counted<
         E,
         F: FnMut(LendingKeyView<'_, '_>, &V) -> Result<VisitControl, E> + Drop,
-    >(self, start: Bound<&[u8]>, end: Bound<&[u8]>, mut f: F, counter: &mut C) -> Result<(), VisitError<E>>
+    >(
+        self,
+        start: Bound<&[u8]>,
+        end: Bound<&[u8]>,
+        mut f: F,
+        counter: &mut C,
+    ) -> Result<(), VisitError<E>>
         requires callable { CanTryView F.FnMut f
             (cut_between (lent_bound start) (lent_bound end) (seen_pairs self)) }
         ensures calls { EndsViewVisitByValue F.FnMut f

@@ -1,4 +1,4 @@
-use Rattle.std.proofs.Common.{arith, rules, ◌≡◌, ◌<◌, ◌^◌, ◌∙◌, List, length, ap, sym, subst, refl, Ok, Err}
+use Rattle.std.proofs.Common.{arith, rules, ◌≡◌, ◌<◌, ◌^◌, ◌∙◌, List, ap, sym, subst, refl, Ok, Err}
 use Rattle.std.specs.Option.{option_copied}
 use Rattle.rart_keys.specs.Ranges.{bound_bytes, is_inclusive}
 use Rattle.rart_keys.specs.SortedMap.{keys_of}
@@ -10,7 +10,7 @@ use Rattle.rart_trie.specs.tries.Tree.{tree_pairs}
 use Rattle.rart_trie.specs.walks.ProbeCount.{probe_count}
 use Rattle.rart_trie.specs.walks.Walk.{SegmentList, tree_entries}
 use Rattle.rart_nodes.specs.walks.PathParts.{one_segment}
-use Rattle.rart_nodes.specs.walks.TriedViews.{CanTryView, EndsViews, EndsViewsAfter}
+use Rattle.rart_nodes.specs.walks.TriedViews.{EndsViews, EndsViewsAfter}
 use Rattle.rart_nodes.specs.walks.ViewSegments.{AreViews, views_ahead}
 use Rattle.rart_nodes.proofs.ranges.RangeCuts.{cut-length, from_bound-views, range-cut}
 use Rattle.rart_trie.proofs.tries.CanonicalTests.{IsCanonicalTree-test}
@@ -88,8 +88,8 @@ returns-clause-by_calls g c =
     let n = c.in-Err.ensures.by_calls (height (keys_of es)) c.in-Ok.ensures.low in (
       n.0,
       (
-        subst (λ (w : List (SegmentList × g.row.V.Denot)). EndsViewsAfter g.F.FnMut c.args.f.now w n.0 (Err c.in-Err.error)
-            c.try_for_each_view_to.new.f) at n.1.0,
+        subst (λ (w : List (SegmentList × g.row.V.Denot)). EndsViewsAfter g.F.FnMut c.args.f.now w n.0
+            (Err c.in-Err.error) c.try_for_each_view_to.new.f) at n.1.0,
         omega (
           arith,
           n.1.1,

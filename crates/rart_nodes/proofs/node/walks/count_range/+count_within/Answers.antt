@@ -1,13 +1,13 @@
-use Rattle.std.proofs.Common.{◌≡◌, ◌≤◌, ◌+◌, ◌++◌, ◌||◌, Some, None, true, arith, ap, length, sym, ◌∙◌}
-use Rattle.rart_nodes.specs.ranges.BoundCuts.{bound_past, has_bytes}
+use Rattle.std.proofs.Common.{◌≡◌, Some, arith, ap, length, sym, ◌∙◌}
+use Rattle.rart_nodes.specs.ranges.BoundCuts.{bound_past}
 use Rattle.rart_nodes.specs.ranges.LentBounds.{lent_bound}
 use Rattle.rart_trie.specs.declared.node.ends.End.TheVariants.{First, Last}
-use Rattle.rart_trie.specs.tries.Trie.{children_pairs, children_in, own_pair, pairs_of, prefix_of, value_of}
+use Rattle.rart_trie.specs.tries.Trie.{children_pairs, pairs_of, prefix_of}
 use Rattle.rart_trie.specs.tries.TrieCode.{node_count}
 use Rattle.rart_trie.proofs.tries.CanonicalTests.{IsCanonical-test}
 use Rattle.rart_nodes.proofs.joins.AlignmentLemmas.{fewer-below, fewer-left}
-use Rattle.rart_nodes.proofs.ranges.CountedBounds.{all-counted, count-few, count_in, counted, ended, fewer-pairs, inside}
-use Rattle.rart_nodes.proofs.ranges.CountedBounds.{few-children, outside, outside-end, passed}
+use Rattle.rart_nodes.proofs.ranges.CountedBounds.{all-counted, count-few, count_in, counted, ended, few-children}
+use Rattle.rart_nodes.proofs.ranges.CountedBounds.{fewer-pairs, inside, outside, outside-end, passed}
 use Rattle.rart_nodes.proofs.ranges.CountedBounds.{rest-canonical, visits-inside, visits-outside}
 use Rattle.rart_nodes.proofs.walks.PartLemmas.{few-count}
 use Rattle.rart_nodes.proofs.node.walks.count_range.+count_within.Goals as goal
@@ -99,7 +99,8 @@ returns-in_default-at_child-2-clause-visits g t c =
     omega (
       arith,
       c.loop-byte.invariant.visits,
-      visits-inside a b o u c.args.at.node.now (sym c.is_range.ensures ∙ c.if-not-is_range.false) c.args.at.canonical q r,
+      visits-inside a b o u c.args.at.node.now (sym c.is_range.ensures ∙ c.if-not-is_range.false) c.args.at.canonical
+          q r,
     )
 
 -- a child that is counted
@@ -144,7 +145,8 @@ overflow_add-count g t c =
     = ap (λ z. bound_past Last z b) (sym c.prefix-2.ensures) ∙ sym c.in-Some-after_prefix.ensures in
     let given = rw c.enter.ensures.shown at c.count_within-count.ensures.value in
     let p = counted o u (lent_bound c.in-Some-at_child.child_low) (lent_bound c.in-Some-at_child-2.child_high) _ _ _ _
-    c.in-Some-next_child.ensures c.loop-byte.invariant.canonical c.in-Some-at_child.ensures c.in-Some-at_child-2.ensures in
+    c.in-Some-next_child.ensures c.loop-byte.invariant.canonical c.in-Some-at_child.ensures
+    c.in-Some-at_child-2.ensures in
     omega (
       arith,
       given,
@@ -203,5 +205,6 @@ returns-clause-visits g t c =
     omega (
       arith,
       c.loop-byte.invariant.visits,
-      visits-inside a b o u c.args.at.node.now (sym c.is_range.ensures ∙ c.if-not-is_range.false) c.args.at.canonical q r,
+      visits-inside a b o u c.args.at.node.now (sym c.is_range.ensures ∙ c.if-not-is_range.false) c.args.at.canonical
+          q r,
     )

@@ -191,7 +191,8 @@ returns-in-Err-clause-by_calls g c = λ h w.
     } in (
       k.0 + 1,
       (
-        k.1.0 1 (k.0 + 1) _ _ (omega arith) (counts-first _ _ _ _ _ (Err c.in-Err.error) _ 1 _ _ e v (refl, (refl, refl))),
+        k.1.0 1 (k.0 + 1) _ _ (omega arith)
+            (counts-first _ _ _ _ _ (Err c.in-Err.error) _ 1 _ _ e v (refl, (refl, refl))),
         omega (arith, k.1.1, c.in-Some.ensures.amortized.last h (c.loop-value.invariant.low h w)),
       ),
     )
