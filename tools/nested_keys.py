@@ -67,6 +67,7 @@ CALLS = [
     ("count_below", 1023),
     ("common_prefix", 2),
     ("count_prefix", 1023),
+    ("count_range", 1022),
     ("clone", 1024),
     ("iter", 1024),
     ("iter_descending", 1024),

@@ -231,8 +231,9 @@ fn sum_within<K: KeyTrait + Drop>(pairs: &mut Range<'_, K, u64>, most: u64) -> u
 
 fn range<K: KeyTrait + Drop>(tree: &Tree<K>, start: &K, end: &K, call: &Call) -> Option<u64> {
     let ways = call.choice % 9;
+    let count = tree.count_range(bound_of(start, ways / 3), bound_of(end, ways % 3));
     match tree.range(bound_of(start, ways / 3), bound_of(end, ways % 3)) {
-        Ok(mut pairs) => Some(sum_within(&mut pairs, most_of(call))),
+        Ok(mut pairs) => Some(mix(sum_within(&mut pairs, most_of(call)), count as u64)),
         Err(_refused) => None,
     }
 }

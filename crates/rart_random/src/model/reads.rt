@@ -162,6 +162,13 @@ fn span_of(model: &Model, key: &Text, end: &Text, call: &Call) -> (usize, usize)
     }
 }
 
+// The pairs within bounds, and how many there are.
+fn range(model: &Model, span: (usize, usize), most: u64) -> u64 {
+    let some = some_of(span, most);
+    let sum = model.sum(some.0, some.1, true);
+    mix(sum, span.1.saturating_sub(span.0) as u64)
+}
+
 /// The call about many pairs.
 pub fn walk(model: &Model, key: &Text, end: &Text, call: &Call) -> u64 {
     let most = most_of(call);
@@ -174,7 +181,8 @@ pub fn walk(model: &Model, key: &Text, end: &Text, call: &Call) -> u64 {
             let last = last_of(span_of(model, key, end, call), most);
             return model.sum_back(last.0, last.1);
         }
-        _ => (some_of(span_of(model, key, end, call), most), true),
+        16 | 18 => (some_of(span_of(model, key, end, call), most), true),
+        _ => return range(model, span_of(model, key, end, call), most),
     };
     model.sum(span.0, span.1, with_keys)
 }

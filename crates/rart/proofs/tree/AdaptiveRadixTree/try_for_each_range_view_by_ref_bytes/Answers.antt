@@ -1,0 +1,8 @@
+use Rattle.rart.proofs.tree.AdaptiveRadixTree.try_for_each_range_view_by_ref_bytes.Goals as goal
+
+pub try_for_each_range_view_by_ref_bytes_counted-requires : goal.try_for_each_range_view_by_ref_bytes_counted-requires
+try_for_each_range_view_by_ref_bytes_counted-requires g c
+    = record { callable = rw c.seen.ensures.pairs c.requires.callable }
+
+pub returns-clause-calls : goal.returns-clause-calls
+returns-clause-calls g c = rw (← c.seen.ensures.pairs) c.try_for_each_range_view_by_ref_bytes_counted.ensures.calls
