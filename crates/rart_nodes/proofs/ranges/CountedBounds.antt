@@ -28,7 +28,7 @@ use Rattle.rart_trie.proofs.tries.CanonicalTests.{IsCanonical-test, canonical-lo
 use Rattle.rart_trie.proofs.tries.Descents.{child_of-low, descend-child_of}
 use Rattle.rart_trie.proofs.tries.FirstBytes.{AllFirst, pairs_of-first}
 use Rattle.rart_trie.proofs.tries.StepLemmas.{root-entered}
-use Rattle.rart_nodes.specs.ranges.BoundCuts.{bound_at, bound_by, bound_past, bound_with, first_cmp, has_bytes, is_in}
+use Rattle.rart_nodes.specs.ranges.BoundCuts.{bound_at, bound_by, bound_past, bound_with, first_cmp, is_bounded, is_in}
 use Rattle.rart_nodes.specs.ranges.BoundCuts.{is_inside, path_count, rest_past, unbounded_if}
 use Rattle.rart_nodes.proofs.ranges.ComparedEntries.{filter-map, is_after, is_before}
 
@@ -116,7 +116,7 @@ later-none (Excluded (x ∷ s)) c d l h = ⊎_elim (λ i. let g = rw (is_less c 
     (⊎_elim (λ i. let g = rw (is_equal c x i) at h in absurd (cc))
     (λ i. rw (is_greater d x (omega (arith, i, l))) refl)) (order c x)
 
-no-bytes : (a : Bound (List ℕ)) → has_bytes a ≡ false → a ≡ Unbounded
+no-bytes : (a : Bound (List ℕ)) → is_bounded a ≡ false → a ≡ Unbounded
 no-bytes Unbounded h = refl
 no-bytes (Included s) h = absurd (cc)
 no-bytes (Excluded s) h = absurd (cc)
@@ -164,9 +164,9 @@ module _ {V : Type 0} where
   all-in (e ∷ es) = ap suc (all-in es)
 
   -- without a bound each is
-  pub all-counted : (a b : Bound (List ℕ)) (es : List (List ℕ × V)) → has_bytes a || has_bytes b ≡ false
+  pub all-counted : (a b : Bound (List ℕ)) (es : List (List ℕ × V)) → is_bounded a || is_bounded b ≡ false
       → count_in (Some a) (Some b) es ≡ length es
-  all-counted a b es h = let n = none-of (has_bytes a) (has_bytes b) h in
+  all-counted a b es h = let n = none-of (is_bounded a) (is_bounded b) h in
       rw (no-bytes a n.0, no-bytes b n.1) (all-in es)
 
   count-append : (a b : Option (Bound (List ℕ))) (xs ys : List (List ℕ × V))
@@ -279,14 +279,14 @@ module _ {V : Type 0} where
       rw (← i, below-with h r cs) (path-followed r cs)
 
   path-past : (e : End) (a o : Bound (List ℕ)) (t : Trie V) → bound_past e (prefix_of t) a ≡ Some o
-      → one_if (has_bytes a) + path_below o (children_in t) ≤ path_count a t
+      → one_if (is_bounded a) + path_below o (children_in t) ≤ path_count a t
   path-past e Unbounded o t q = let i : Unbounded ≡ o = cc in rw (← i) (omega arith)
   path-past e (Included s) o (node p v n cs) q
       = omega (arith, rest-path e (slice_cmp nat_cmp p s) true (strip_prefix p s) o cs q)
   path-past e (Excluded s) o (node p v n cs) q
       = omega (arith, rest-path e (slice_cmp nat_cmp p s) false (strip_prefix p s) o cs q)
 
-  path-some : (a : Bound (List ℕ)) (t : Trie V) → one_if (has_bytes a) ≤ path_count a t
+  path-some : (a : Bound (List ℕ)) (t : Trie V) → one_if (is_bounded a) ≤ path_count a t
   path-some Unbounded t = omega arith
   path-some (Included s) (node p v n cs) = some-by (strip_prefix p s) (λ b k. descend_child counts b k cs)
   path-some (Excluded s) (node p v n cs) = some-by (strip_prefix p s) (λ b k. descend_child counts b k cs)
@@ -353,18 +353,18 @@ module _ {V : Type 0} where
       ∙ ap₂ (λ x y. count_in x y (own_pair v ++ children_pairs cs)) q r
 
   -- the visits of a node that is on the path to a bound
-  pub visits-outside : (a b : Bound (List ℕ)) (t : Trie V) → has_bytes a || has_bytes b ≡ true
+  pub visits-outside : (a b : Bound (List ℕ)) (t : Trie V) → is_bounded a || is_bounded b ≡ true
       → 1 ≤ path_count a t + path_count b t
   visits-outside a b t h
-      = omega (arith, path-some a t, path-some b t, one-of (has_bytes a) (has_bytes b) h)
+      = omega (arith, path-some a t, path-some b t, one-of (is_bounded a) (is_bounded b) h)
 
-  pub visits-inside : (a b o u : Bound (List ℕ)) (t : Trie V) → has_bytes a || has_bytes b ≡ true
+  pub visits-inside : (a b o u : Bound (List ℕ)) (t : Trie V) → is_bounded a || is_bounded b ≡ true
       → is_canonical t ≡ true → bound_past First (prefix_of t) a ≡ Some o → bound_past Last (prefix_of t) b ≡ Some u
       → 1 + most_below o u (children_in t)
       ≤ path_count a t + path_count b t + 2 * count_in (Some a) (Some b) (pairs_of t)
   visits-inside a b o u (node p v n cs) h c q r = omega (
     arith,
-    one-of (has_bytes a) (has_bytes b) h,
+    one-of (is_bounded a) (is_bounded b) h,
     path-past First a o (node p v n cs) q,
     path-past Last b u (node p v n cs) r,
     few-below 0 o u cs (IsCanonical-test (node p v n cs) c).2,

@@ -1,4 +1,5 @@
--- A bound as the keys see it that begin with some bytes, by what follows these.
+-- What is left of a bound for the keys that begin with some bytes, by what follows these: `Unbounded` where all of them
+-- are within it, none where no one is.
 use Rattle.std.specs.Prelude.{ℕ, Bool, true, false, List, [], ◌∷◌, Option, Some, None}
 use Rattle.std.specs.Ordering.{nat_cmp, match_ordering}
 use Rattle.std.specs.Cmp.Lexicographic.{slice_cmp}
@@ -18,12 +19,12 @@ abbrev pub is_in : End → Bound (List ℕ) → List ℕ → Bool
 is_in First a k = is_from a k
 is_in Last b k = is_to b k
 
--- whether keys that compare so with its bytes are, which are other keys
+-- whether keys that compare so with the bytes of a bound, and aren't equal to them, are within it
 abbrev pub is_inside : End → Ordering → Bool
 is_inside First o = match_ordering o false false true
 is_inside Last o = match_ordering o true false false
 
--- no bound for keys that are within it, none for others
+-- all keys are within, or no key is
 abbrev pub unbounded_if : Bool → Option (Bound (List ℕ))
 unbounded_if true = Some Unbounded
 unbounded_if false = None
@@ -33,24 +34,24 @@ abbrev pub bound_with : Bool → List ℕ → Bound (List ℕ)
 bound_with true s = Included s
 bound_with false s = Excluded s
 
--- whether a bound has bytes
-abbrev pub has_bytes : Bound (List ℕ) → Bool
-has_bytes Unbounded = false
-has_bytes (Included a) = true
-has_bytes (Excluded a) = true
+-- whether a bound isn't `Unbounded`
+abbrev pub is_bounded : Bound (List ℕ) → Bool
+is_bounded Unbounded = false
+is_bounded (Included a) = true
+is_bounded (Excluded a) = true
 
--- by what is left of its bytes after a prefix, or else by how the prefix compares with them
+-- by what its bytes have after a prefix, or else by how the prefix compares with them
 abbrev pub rest_past : End → Ordering → Bool → Option (List ℕ) → Option (Bound (List ℕ))
 rest_past e o h None = unbounded_if (is_inside e o)
 rest_past e o h (Some r) = Some (bound_with h r)
 
--- the bound of what follows a prefix, or none where no key that begins with it is within
+-- what is left of a bound after a prefix
 abbrev pub bound_past : End → List ℕ → Bound (List ℕ) → Option (Bound (List ℕ))
 bound_past e p Unbounded = Some Unbounded
 bound_past e p (Included s) = rest_past e (slice_cmp nat_cmp p s) true (strip_prefix p s)
 bound_past e p (Excluded s) = rest_past e (slice_cmp nat_cmp p s) false (strip_prefix p s)
 
--- how the strings that begin with a byte compare with s, if not by what follows
+-- how the strings that begin with a byte compare with s, or `Equal` where that is the first byte of s
 abbrev pub first_cmp : ℕ → List ℕ → Ordering
 first_cmp c [] = Greater
 first_cmp c (b ∷ s) = nat_cmp c b
@@ -58,13 +59,13 @@ first_cmp c (b ∷ s) = nat_cmp c b
 abbrev pub bound_by : End → Bound (List ℕ) → Ordering → Option (Bound (List ℕ))
 bound_by e a o = match_ordering o (unbounded_if (is_inside e Less)) (Some a) (unbounded_if (is_inside e Greater))
 
--- the bound of the keys that begin with a byte, or none where none of these is within
+-- what is left of a bound for the keys that begin with a byte, which is not dropped from them
 abbrev pub bound_at : End → ℕ → Bound (List ℕ) → Option (Bound (List ℕ))
 bound_at e c Unbounded = Some Unbounded
 bound_at e c (Included s) = bound_by e (Included s) (first_cmp c s)
 bound_at e c (Excluded s) = bound_by e (Excluded s) (first_cmp c s)
 
--- how many nodes the path to a bound has at and below a node, if there is a bound
+-- the nodes that a descent to the bytes of a bound enters, 0 for none
 abbrev pub path_count : {V : Type 0} → Bound (List ℕ) → Trie V → ℕ
 path_count Unbounded t = 0
 path_count (Included s) t = entered_nodes s t

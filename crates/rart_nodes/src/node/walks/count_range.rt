@@ -1,14 +1,14 @@
 //! The number of pairs between two bounds, found node by node.
 
-// A node on the path to a bound cuts it: the keys at and below the node see what is left of it, or no bound if all of
-// them are within it. So no bytes of the path are kept, and nothing is allocated.
+// At a node on the path to a bound, the count continues with what is left of the bound after the node's prefix, or
+// without a bound if all keys of the node are within it. So no byte of the path is kept, and nothing is allocated.
 
 ghost use Rattle.std.specs.Cmp.Lexicographic.{slice_cmp};
 ghost use Rattle.std.specs.Ordering.{nat_cmp};
 ghost use Rattle.std.specs.Prelude.{◌≡◌, ◌≤◌, ◌+◌, ◌*◌, ◌||◌, [], length, option_map};
 ghost use Rattle.rart_keys.specs.ByteStrings.{strip_prefix};
 ghost use Rattle.rart_keys.specs.Ranges.{between, bound_in};
-ghost use Rattle.rart_nodes.specs.ranges.BoundCuts.{bound_at, bound_by, bound_past, bound_with, first_cmp, has_bytes};
+ghost use Rattle.rart_nodes.specs.ranges.BoundCuts.{bound_at, bound_by, bound_past, bound_with, first_cmp, is_bounded};
 ghost use Rattle.rart_nodes.specs.ranges.BoundCuts.{is_in, is_inside, path_count, rest_past};
 ghost use Rattle.rart_nodes.specs.ranges.LentBounds.{lent_bound};
 ghost use Rattle.rart_nodes.specs.ranges.Spans.{count_bound, count_visits};
@@ -35,9 +35,9 @@ fn are_inside(side: End, at: Ordering) -> bool
     }
 }
 
-/// Returns whether a bound has bytes.
+/// Returns whether a bound isn't `Unbounded`.
 fn is_bounded(bound: Bound<&[u8]>) -> bool
-    ensures { result ≡ has_bytes (lent_bound bound.entry) }
+    ensures { result ≡ is_bounded (lent_bound bound.entry) }
 {
     match bound {
         Bound::Included(_) => true,
@@ -46,9 +46,9 @@ fn is_bounded(bound: Bound<&[u8]>) -> bool
     }
 }
 
-/// Returns whether one of two bounds has bytes.
+/// Returns whether one of two bounds isn't `Unbounded`.
 fn is_range(start: Bound<&[u8]>, end: Bound<&[u8]>) -> bool
-    ensures { result ≡ has_bytes (lent_bound start.entry) || has_bytes (lent_bound end.entry) }
+    ensures { result ≡ is_bounded (lent_bound start.entry) || is_bounded (lent_bound end.entry) }
 {
     is_bounded(start) || is_bounded(end)
 }
@@ -77,7 +77,7 @@ fn bound_of(bytes: &[u8], included: bool) -> Bound<&[u8]>
     }
 }
 
-/// Returns what is left of a bound after the prefix of a node.
+/// Returns what is left of the bound of `bytes` after the prefix of a node, or `None` if no key there is within it.
 fn rest_after<'k, P: Partial>(
     side: End,
     prefix: &P,
@@ -97,7 +97,7 @@ fn rest_after<'k, P: Partial>(
     None
 }
 
-/// Returns `bound` as the keys of a node see it after its prefix, or `None` if none of them is within it.
+/// Returns what is left of `bound` after the prefix of a node, or `None` if no key there is within it.
 fn after_prefix<'k, P: Partial>(
     side: End,
     prefix: &P,
@@ -123,7 +123,7 @@ fn compare_first(byte: u8, bytes: &[u8]) -> Ordering
     }
 }
 
-/// Returns `bound` for keys that compare so with it. Those that continue as it does are `Equal`.
+/// Returns `bound` for keys that begin with its first byte, which are `Equal`, and what is left of it for others.
 fn bound_for<'k>(side: End, bound: Bound<&'k [u8]>, at: Ordering) -> Option<Bound<&'k [u8]>>
     ensures { option_map lent_bound result ≡ bound_by side (lent_bound bound.entry) at }
 {
@@ -136,7 +136,7 @@ fn bound_for<'k>(side: End, bound: Bound<&'k [u8]>, at: Ordering) -> Option<Boun
     None
 }
 
-/// Returns `bound` as the keys of the child at a byte see it, or `None` if none of them is within it.
+/// Returns what is left of `bound` for the keys of the child at a byte, or `None` if none of them is within it.
 fn at_child<'k>(side: End, byte: u8, bound: Bound<&'k [u8]>) -> Option<Bound<&'k [u8]>>
     ensures { option_map lent_bound result ≡ bound_at side byte (lent_bound bound.entry) }
 {
@@ -147,7 +147,7 @@ fn at_child<'k>(side: End, byte: u8, bound: Bound<&'k [u8]>) -> Option<Bound<&'k
     }
 }
 
-/// Returns 1 if a visited node has a value and its prefix ends within both bounds, which are those after its prefix.
+/// Returns 1 if a visited node has a value and its key is within both bounds, which are what its prefix left of them.
 fn count_own<P: Partial, V, C>(
     at: Entered<'_, P, V, C>,
     start: Bound<&[u8]>,

@@ -1,12 +1,12 @@
-use Rattle.std.proofs.Common.{arith, rules, of_calls, ◌≡◌, ◌+◌, [], ◌∷◌, List, ap, subst, sym, refl, ◌∙◌, Ok, Err}
+use Rattle.std.proofs.Common.{arith, rules, of_calls, ◌≡◌, ◌+◌, [], ◌∷◌, ap, subst, sym, refl, ◌∙◌, Ok, Err}
 use Rattle.std.specs.Option.{option_copied}
 use Rattle.rart_nodes.specs.ranges.LentBounds.{lent_bound}
 use Rattle.rart_nodes.specs.declared.node.walks.control.VisitControl.TheVariants.{Continue, Stop}
 use Rattle.rart_nodes.specs.walks.PathParts.{lent_segments, one_segment}
-use Rattle.rart_nodes.specs.walks.TriedViews.{EndsViews, EndsViewsAfter, ViewedAs}
+use Rattle.rart_nodes.specs.walks.TriedViews.{ViewedAs}
 use Rattle.rart_nodes.specs.walks.ViewSegments.{AreViews}
 use Rattle.rart_trie.specs.ranges.Starts.{entries_to}
-use Rattle.rart_trie.specs.walks.Walk.{SegmentList, entries_ahead}
+use Rattle.rart_trie.specs.walks.Walk.{entries_ahead}
 use Rattle.rart_trie.proofs.edits.CallbackLemmas.{can-first, can-rest}
 use Rattle.rart_nodes.proofs.ranges.RangeCuts.{stop-past, stop-within}
 use Rattle.rart_nodes.proofs.walks.TriedViewLemmas.{always-after-tried-views, counts-first, ends-first, equal-counts}
