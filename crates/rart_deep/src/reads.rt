@@ -116,7 +116,10 @@ pub fn read(tree: &Tree, name: &str) -> Option<usize> {
         "count_below" => counted_below(tree),
         "common_prefix" => Some(tree.longest_common_prefix_k(&key(2))?.as_ref().len()),
         "count_prefix" => Some(tree.count_prefix_k(&key(2))),
-        "count_range" => Some(tree.count_range(Bound::Included(key(2)), Bound::Excluded(key(1024)))),
+        "count_range" => Some(tree.count_range(
+            Bound::Included(key(2)),
+            Bound::Excluded(key(1024)),
+        )),
         "clone" => cloned(tree),
         _ => walk(tree, name),
     }
