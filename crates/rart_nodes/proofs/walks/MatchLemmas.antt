@@ -2,7 +2,7 @@
 use Rattle.std.proofs.Common.{◌≡◌, ℕ, ◌+◌, ◌-◌, ◌≤◌, ◌==◌, Bool, true, false, List, [], ◌∷◌, ◌++◌, length}
 use Rattle.std.proofs.Common.{length-append, take, drop, refl, sym, ap, subst, ◌∙◌, arith, Option, Some, None, is_some}
 use Rattle.std.proofs.Common.{if◌then◌else◌}
-use Rattle.std.specs.Prelude.{slice_get, IfSome}
+use Rattle.std.specs.Prelude.{slice_get, IfSome, MatchOption}
 use Rattle.std.proofs.lemmas.List.{append-nil, append_assoc, length-drop, take-append-drop, take-append-le, take_all}
 use Rattle.std.proofs.Math.Seq.{drop-append_seam}
 use Rattle.rart_keys.specs.ByteStrings.{strip_prefix, begins}
@@ -31,12 +31,12 @@ begins-append (x ∷ p) l (y ∷ q) = elim (x == y) as (λ b. is_some (if b then
     ≡ begins_within l (if b then strip_prefix p q else None)) [ true ↦ begins-append p l q | false ↦ refl ]
 
 -- where a string is read on after d bytes and the prefix p, and r is left
-record SplitAt (p q r : List ℕ) (d d1 : ℕ) : Type 0 where
+pub record SplitAt (p q r : List ℕ) (d d1 : ℕ) : Type 0 where
   pub within : d1 ≤ length q
   pub front : take d1 q ≡ take d q ++ p
   pub after : drop d1 q ≡ r
 
-split-at : (p q k r : List ℕ) (d d1 : ℕ) → d ≤ length q → k ≡ drop d q → Some r ≡ strip_prefix p k
+pub split-at : (p q k r : List ℕ) (d d1 : ℕ) → d ≤ length q → k ≡ drop d q → Some r ≡ strip_prefix p k
     → d1 ≡ length q - length r → SplitAt p q r d d1
 split-at p q k r d d1 l i e f =
     let a : List ℕ = take d q ++ p in
@@ -138,6 +138,11 @@ module _ {V : Type 0} where
         falls = child-falls b (node p v n cs) o (sym j);
       }
 
+  -- or leaves the string at t
+  pub pass-none : (t : Trie V) (q k : List ℕ) (d : ℕ) → k ≡ drop d q → None ≡ strip_prefix (prefix_of t) k
+      → entered_ahead q d (Some t) ≡ 1
+  pass-none (node p v n cs) q k d i e = rw (← i, ← e) refl
+
   -- what a descent from the top has to pass
   pub matches-ahead : (q : List ℕ) (d : ℕ) (o root : Option (Trie V)) → d ≡ 0 → o ≡ root → IsCanonicalTree root
       → matches_ahead q d o ≡ matches q (tree_pairs root)
@@ -157,6 +162,12 @@ module _ {V : Type 0} where
   pub entered-ahead : (q : List ℕ) (d : ℕ) (o root : Option (Trie V)) → d ≡ 0 → o ≡ root
       → entered_ahead q d o ≡ tree_entered q root
   entered-ahead q d o root e f = rw (e, f) refl
+
+-- a value that was passed is the last so far, and no value leaves the last as it is
+pub last-passed : {V : Type 0} (o p : Option (List ℕ × V)) (k : List ℕ) (v : Option V) (es : List (List ℕ × V))
+    → MatchOption v (p ≡ o) (λ x. p ≡ Some (k, x)) → last_or p es ≡ last_or o (pair_at k v ++ es)
+last-passed o p k None es e = ap (λ z. last_or z es) e
+last-passed o p k (Some v) es e = ap (λ z. last_or z es) e
 
 last-short : {V : Type 0} (n : ℕ) (q : List ℕ) (o : Option (List ℕ × V)) (es : List (List ℕ × V))
     → IfSome o (λ p. length p.0 ≤ n) → longest_key es ≤ n → IfSome (last_or o (matches q es)) (λ p. length p.0 ≤ n)

@@ -50,6 +50,8 @@ impl<'a, K: KeyTrait, P: Partial, V, C> Model for KeyWalk<'a, K, P, V, C> {
 
 impl<'a, K: KeyTrait, P: Partial, V, C: Count> KeyWalk<'a, K, P, V, C> {
     /// Returns the next pair. It does not allocate.
+    // Inline, as each iterator's step is one call of it.
+    #[inline(always)]
     pub(crate) fn step(&mut self, counter: &mut C) -> Option<(K, &'a V)>
         ensures pairs { MatchOption result ((self.old ≡ []) × (self.new ≡ []))
             (λ p. self.old ≡ (K.bytes p.0, p.1.now) ∷ self.new) }
@@ -82,6 +84,8 @@ impl<'a, K: KeyTrait, V, C: Count> SeenIter<'a, K, V, C> {
     /// # Visits
     ///
     /// At most one node more than the key has bytes, and none at the end.
+    // Inline, as each iterator's step is one call of it.
+    #[inline(always)]
     pub fn next_counted(&mut self, counter: &mut C) -> Option<(K, &'a V)>
         ensures pairs { MatchOption result ((self.old ≡ []) × (self.new ≡ []))
             (λ p. self.old ≡ (K.bytes p.0, p.1.now) ∷ self.new) }
@@ -129,6 +133,8 @@ impl<'a, K: KeyTrait, P: Partial, V> Iterator for Iter<'a, K, P, V> {
     }
 
     /// Returns the next pair. It is fused and does not allocate.
+    // Inline, so that a loop over the pairs makes no call and copies no key.
+    #[inline(always)]
     fn next(&mut self) -> Option<(K, &'a V)> {
         self.pairs.next_counted(&mut Visits::new())
     }
@@ -167,6 +173,8 @@ impl<'a, K: KeyTrait, V> Iterator for ValuesIter<'a, K, V> {
     }
 
     /// Returns the next value. It is fused, builds no key and does not allocate.
+    // Inline, so that a loop over the values makes no call.
+    #[inline(always)]
     fn next(&mut self) -> Option<&'a V> {
         self.walk.advance(&mut NoPath, &mut Visits::new())
     }

@@ -303,6 +303,8 @@ impl<'a, P: Partial, V, C> Entered<'a, P, V, C> {
 
 impl<'a, P: Partial, V, C: Count> Branches<'a, P, V, C> {
     /// Visits the next child.
+    // Inline, as each step of a walk calls it.
+    #[inline(always)]
     pub(crate) fn enter_next(&mut self, counter: &mut C) -> Option<Entered<'a, P, V, C>>
         ensures shown { MatchOption result ((self.old ≡ no_children) × (self.new ≡ no_children))
             (λ e. (b : ℕ)

@@ -56,6 +56,8 @@ fn value_if<'a, P: Partial, V, C>(at: Entered<'a, P, V, C>, included: bool) -> O
 }
 
 /// Visits the next child of the deepest level and returns it with the depth of the level.
+// Inline, as each step of a walk calls it.
+#[inline(always)]
 fn enter_deepest<'a, P: Partial, V, C: Count>(
     levels: &mut Vec<(Branches<'a, P, V, C>, usize)>,
     counter: &mut C,
@@ -71,19 +73,22 @@ fn enter_deepest<'a, P: Partial, V, C: Count>(
     Some((at, level.1))
 }
 
-/// Extends the path by a visited node. A leaf gets no level.
+/// Extends the path by a visited node and returns its value. A leaf gets no level.
+// Inline, as each step of a walk calls it.
+#[inline(always)]
 fn extend_path<'a, P: Partial, V, C, T: Path<'a, P>>(
     levels: &mut Vec<(Branches<'a, P, V, C>, usize)>,
     path: &mut T,
     at: Entered<'a, P, V, C>,
     depth: usize,
-)
+) -> Option<&'a V>
     requires bytes { depth + length (prefix_of at.node.now) ≤ T.capacity path.old }
     requires place { vec_len levels.old < vec_capacity levels.old }
     ensures kept { T.kept path.new
         ≡ take depth (T.kept path.old) ++ T.grown (prefix_of at.entry.node.now) }
     ensures levels { PushesLevel levels.old.items at.entry.node.now (length (T.kept path.new))
         levels.new.items }
+    ensures value { option_copied result ≡ value_of at.entry.node.now }
     ensures path_capacity { T.capacity path.old ≤ T.capacity path.new }
     ensures requested { T.requested path.new ≡ T.requested path.old }
     ensures level_capacity { vec_capacity levels.new ≡ vec_capacity levels.old }
@@ -91,9 +96,10 @@ fn extend_path<'a, P: Partial, V, C, T: Path<'a, P>>(
     path.cut(depth);
     path.grow(at.prefix());
     if at.has_no_children() {
-        return;
+        return at.value();
     }
     levels.push_reserved((at.branches(), path.mark()));
+    at.value()
 }
 
 /// Returns a walk over the subtree of a visited node; the path is that of the path to it.
@@ -202,6 +208,8 @@ impl<'a, K: KeyTrait, V, C: Count> Seen<'a, K, V, C> {
 impl<'a, P: Partial, V, C: Count> Walk<'a, P, V, C> {
     /// Returns the value of the next pair; the path then is that of its key. It does not allocate, and visits each
     /// node once.
+    // Inline, as each iterator's step is one call of it.
+    #[inline(always)]
     pub(crate) fn advance<T: Path<'a, P>>(&mut self, path: &mut T, counter: &mut C) -> Option<&'a V>
         requires path { IsWalkAt self.old (T.kept path.old) }
         requires reserved { self.old.longest ≤ T.capacity path.old }
@@ -231,8 +239,7 @@ impl<'a, P: Partial, V, C: Count> Walk<'a, P, V, C> {
                     self.levels.take_last();
                 }
                 Some((at, depth)) => {
-                    extend_path(&mut self.levels, path, at, depth);
-                    if let Some(value) = at.value() {
+                    if let Some(value) = extend_path(&mut self.levels, path, at, depth) {
                         return Some(value);
                     }
                 }

@@ -107,10 +107,22 @@ impl<'a, K: KeyTrait, V, C: Count> Seen<'a, K, V, C> {
             + probe_count (seen_keys self.entry) probe.now }
         ensures bound { C.number counter.new ≤ C.number counter.old + length probe.now + 1 }
     {
-        let mut matching = self.matching();
+        let mut next = self.top();
+        let mut rest = probe;
         let mut last = None;
-        while let Some(value) = matching.advance(probe, counter) {
-            last = Some((matching.depth, value));
+        while let Some(node) = next {
+            let at = node.enter(counter);
+            let Some(after) = strip_prefix(at.prefix(), rest) else {
+                return last;
+            };
+            if let Some(value) = at.value() {
+                last = Some((probe.len() - after.len(), value));
+            }
+            let Some(byte) = after.first() else {
+                return last;
+            };
+            next = at.child(*byte);
+            rest = after;
         }
         last
     }

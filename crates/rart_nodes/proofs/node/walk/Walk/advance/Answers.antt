@@ -30,28 +30,29 @@ turned g c = turn-either _ _ _ _ _ _ _ c.in-Some-enter_deepest.at.node.now _ _ _
     c.extend_path.ensures.levels
     (c.extend_path.ensures.level_capacity ∙ c.enter_deepest.ensures.level_capacity)
 
-pub returns-in-Some-value-clause-path : goal.returns-in-Some-value-clause-path
-returns-in-Some-value-clause-path g c
-    = (turned g (goal.at.returns-in-Some-value-clause-path g c).After-extend_path).path
+pub returns-in-Some-extend_path-clause-path : goal.returns-in-Some-extend_path-clause-path
+returns-in-Some-extend_path-clause-path g c
+    = (turned g (goal.at.returns-in-Some-extend_path-clause-path g c).After-extend_path).path
 
-pub returns-in-Some-value-clause-entries : goal.returns-in-Some-value-clause-entries
-returns-in-Some-value-clause-entries g c =
-    let t = turned g (goal.at.returns-in-Some-value-clause-entries g c).After-extend_path in
-    rw (c.loop-self.invariant.first) (sym c.loop-self.invariant.still ∙ t.still ∙ rw (← c.in-Some-value.ensures) refl)
+pub returns-in-Some-extend_path-clause-entries : goal.returns-in-Some-extend_path-clause-entries
+returns-in-Some-extend_path-clause-entries g c =
+    let t = turned g (goal.at.returns-in-Some-extend_path-clause-entries g c).After-extend_path in
+    rw (c.loop-self.invariant.first)
+    (sym c.loop-self.invariant.still ∙ t.still ∙ rw (← c.in-Some-extend_path.ensures.value) refl)
 
-pub returns-in-Some-value-clause-visits : goal.returns-in-Some-value-clause-visits
-returns-in-Some-value-clause-visits g c =
-    let t = turned g (goal.at.returns-in-Some-value-clause-visits g c).After-extend_path in
+pub returns-in-Some-extend_path-clause-visits : goal.returns-in-Some-extend_path-clause-visits
+returns-in-Some-extend_path-clause-visits g c =
+    let t = turned g (goal.at.returns-in-Some-extend_path-clause-visits g c).After-extend_path in
     omega (arith, t.counted, c.loop-self.invariant.visits, c.in-Some-enter_deepest.ensures.counted)
 
-pub returns-in-Some-value-clause-bound : goal.returns-in-Some-value-clause-bound
-returns-in-Some-value-clause-bound g c = λ bytes.
+pub returns-in-Some-extend_path-clause-bound : goal.returns-in-Some-extend_path-clause-bound
+returns-in-Some-extend_path-clause-bound g c = λ bytes.
     visit-one g.T.Keeps.grown _ _ _ _ _ _ _ _ c.in-Some-enter_deepest.at.node.now _ _ bytes c.loop-self.invariant.path
     (c.loop-self.invariant.bound bytes) c.in-Some-enter_deepest.ensures.shown c.extend_path.ensures.kept
     c.in-Some-enter_deepest.ensures.counted
 
-pub returns-in-Some-value-clause-amortized : goal.returns-in-Some-value-clause-amortized
-returns-in-Some-value-clause-amortized g c =
+pub returns-in-Some-extend_path-clause-amortized : goal.returns-in-Some-extend_path-clause-amortized
+returns-in-Some-extend_path-clause-amortized g c =
     amortized-given _ _ _ _ _ c.in-Some-enter_deepest.at.node.now c.args.self.now.levels.items _ _ _
     c.in-Some-enter_deepest.ensures.shown c.extend_path.ensures.levels c.in-Some-enter_deepest.ensures.counted
     c.loop-self.invariant.potential c.loop-self.invariant.low
@@ -64,17 +65,18 @@ loop-self-preserved g c =
       path = t.path;
       reserved = omega (arith, c.loop-self.invariant.reserved, c.extend_path.ensures.path_capacity);
       requested = c.extend_path.ensures.requested ∙ c.loop-self.invariant.requested;
-      still = sym (t.still ∙ rw (← c.in_default-value.ensures) refl) ∙ c.loop-self.invariant.still;
+      still = sym (t.still ∙ rw (← c.in_default-extend_path.ensures.value) refl) ∙ c.loop-self.invariant.still;
       visits = omega (arith, t.counted, c.loop-self.invariant.visits, c.in-Some-enter_deepest.ensures.counted);
       longest = c.loop-self.invariant.longest;
       bound = λ bytes. visit-on _ _ c.in-Some-enter_deepest.at.node.now _ _ _ c.in-Some-enter_deepest.at.canonical
-          c.in_default-value.ensures c.extend_path.ensures.levels
+          c.in_default-extend_path.ensures.value c.extend_path.ensures.levels
           (visit-one g.T.Keeps.grown _ _ _ _ _ _ _ _ c.in-Some-enter_deepest.at.node.now _ _ bytes
           c.loop-self.invariant.path (c.loop-self.invariant.bound bytes) c.in-Some-enter_deepest.ensures.shown
           c.extend_path.ensures.kept c.in-Some-enter_deepest.ensures.counted);
       potential = potential-on _ _ _ _ _ _ c.in-Some-enter_deepest.at.node.now _ _ _
-          c.in-Some-enter_deepest.at.canonical c.in_default-value.ensures c.in-Some-enter_deepest.ensures.shown
-          c.extend_path.ensures.levels c.in-Some-enter_deepest.ensures.counted c.loop-self.invariant.potential;
+          c.in-Some-enter_deepest.at.canonical c.in_default-extend_path.ensures.value
+          c.in-Some-enter_deepest.ensures.shown c.extend_path.ensures.levels c.in-Some-enter_deepest.ensures.counted
+          c.loop-self.invariant.potential;
       low = λ h w. low-on h _ _ c.in-Some-enter_deepest.at.node.now _ _ _ c.in-Some-enter_deepest.ensures.shown
           c.extend_path.ensures.levels (c.loop-self.invariant.low h w);
     }
@@ -103,15 +105,15 @@ loop-self-preserved-in-None g c =
           (c.loop-self.invariant.low h w);
     }
 
-pub returns-in-Some-value-clause-reserved : goal.returns-in-Some-value-clause-reserved
-returns-in-Some-value-clause-reserved g c = omega
+pub returns-in-Some-extend_path-clause-reserved : goal.returns-in-Some-extend_path-clause-reserved
+returns-in-Some-extend_path-clause-reserved g c = omega
     (arith, c.loop-self.invariant.reserved, c.extend_path.ensures.path_capacity)
 
-pub returns-in-Some-value-clause-requested : goal.returns-in-Some-value-clause-requested
-returns-in-Some-value-clause-requested g c = c.extend_path.ensures.requested ∙ c.loop-self.invariant.requested
+pub returns-in-Some-extend_path-clause-requested : goal.returns-in-Some-extend_path-clause-requested
+returns-in-Some-extend_path-clause-requested g c = c.extend_path.ensures.requested ∙ c.loop-self.invariant.requested
 
-pub returns-in-Some-value-clause-longest : goal.returns-in-Some-value-clause-longest
-returns-in-Some-value-clause-longest g c = c.loop-self.invariant.longest
+pub returns-in-Some-extend_path-clause-longest : goal.returns-in-Some-extend_path-clause-longest
+returns-in-Some-extend_path-clause-longest g c = c.loop-self.invariant.longest
 
 pub returns-clause-path : goal.returns-clause-path
 returns-clause-path g c = c.loop-self.invariant.path
