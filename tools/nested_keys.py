@@ -18,8 +18,8 @@ sys.dont_write_bytecode = True
 
 CRATE = pathlib.Path(__file__).resolve().parents[1] / "crates" / "rart_deep"
 
-# What a process may take: an eighth of what systems give. As LLVM builds it, `try_update` takes 0.4 KiB a level, any
-# other call and the drop of the tree 0.35 KiB at most, with keys of 1 KiB.
+# What a process may take: an eighth of what systems give. As LLVM builds it, `count_range` takes 0.55 KiB a level,
+# `try_update` 0.4 KiB, and any other call and the drop of the tree 0.35 KiB at most, with keys of 1 KiB.
 KIB = 1024
 
 # The drop of 128 levels of wide nodes with keys of at most 128 bytes, its answer, and what it may take: the compiler's
