@@ -265,8 +265,10 @@ BODIES = (
     Body(
         "a wider storage loses the value",
         *GROW,
-        "fill(next.extra_mut(), map.extra_mut().take());\n                self.replace_empty(Storage::Node16(next));",
-        "let _lost = map.extra_mut().take();\n                self.replace_empty(Storage::Node16(next));",
+        "fill(next.extra_mut(), map.extra_mut().take());\n                let prefix = take_prefix(prefix);\n"
+        "                self.replace_empty(Storage::Node16(prefix, next));",
+        "let _lost = map.extra_mut().take();\n                let prefix = take_prefix(prefix);\n"
+        "                self.replace_empty(Storage::Node16(prefix, next));",
         (
             "error[linear-value-let-go]: `_lost` is let go where its block ends, and `Option<V>` is not `Drop`, since "
             "`V` is not",

@@ -4,5 +4,6 @@ pub mod CommonPrefixes
 pub mod InlineBytes
 pub mod KeyComparisons
 pub mod NumberOrder
+pub mod PartMarks
 pub mod SharedBeginnings
 pub mod WordLemmas

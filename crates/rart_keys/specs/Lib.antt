@@ -11,6 +11,7 @@ pub mod KeyBytes
 pub mod LittleEndianWord
 pub mod LongestMatches
 pub mod NumberBytes
+pub mod PartLengths
 pub mod Ranges
 pub mod SortedMap
 pub mod TailKeyBytes

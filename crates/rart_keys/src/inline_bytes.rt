@@ -4,6 +4,8 @@ ghost use Rattle.std.specs.Prelude.{◌≡◌, ◌+◌, ◌-◌, ◌≤◌, ◌+
 use crate::copies::copy_bytes;
 
 /// Returns an array of `first`, `second` and zeros, in this order.
+// Inline, as walks make each key by it.
+#[inline(always)]
 pub(crate) fn joined_bytes<const N: usize>(first: &[u8], second: &[u8]) -> [u8; N]
     requires { length first.now + length second.now ≤ N }
     ensures { result ≡ first.now ++ second.now

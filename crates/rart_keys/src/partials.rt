@@ -10,6 +10,7 @@ ghost use Rattle.rart_keys.specs.KeyBytes.{AreBytes, IsWithin};
 use std::slice::Iter;
 
 pub mod array_partial;
+mod part_length;
 
 /// Holds a part of a key by value.
 pub trait Partial: Drop {

@@ -1,4 +1,5 @@
 pub mod BackVisits
+pub mod BoundCutLemmas
 pub mod BoundDescents
 pub mod BoundSteps
 pub mod ComparedEntries

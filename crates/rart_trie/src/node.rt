@@ -29,8 +29,7 @@ pub use storage::child_map::ChildMap;
 /// empty prefix.
 #[derive(Drop)]
 pub struct DefaultNode<P: Partial, V> {
-    prefix: P,
-    storage: Storage<V, DefaultNode<P, V>>,
+    storage: Storage<P, V, DefaultNode<P, V>>,
 }
 
 impl<P: Partial, V> Model for DefaultNode<P, V> {
@@ -41,16 +40,16 @@ impl<P: Partial, V> Model for DefaultNode<P, V> {
 
     ghost coded = { trie_code V.code };
 
-    ghost use Rattle.rart_trie.specs.storages.Stored.{child_entries, storage_capacity, stored_value};
+    ghost use Rattle.rart_trie.specs.storages.Stored.{child_entries, storage_capacity, stored_prefix, stored_value};
 
-    ghost view = { λ a. node (P.bytes a.prefix) (stored_value a.storage) (storage_capacity a.storage)
-        (as_children (child_entries a.storage)) };
+    ghost view = { λ a. node (P.bytes (stored_prefix a.storage)) (stored_value a.storage)
+        (storage_capacity a.storage) (as_children (child_entries a.storage)) };
 
     ghost size = { node_count };
 
     ghost use Rattle.rart_trie.specs.storages.StoredFalls.{deep_le-stored};
 
-    ghost size_decreases = { λ a h. deep_le-stored P.Partial a.prefix a.storage };
+    ghost size_decreases = { λ a h. deep_le-stored P.Partial a.storage };
 }
 
 impl<P: Partial, V> DefaultNode<P, V> {
@@ -61,8 +60,7 @@ impl<P: Partial, V> DefaultNode<P, V> {
         ensures pairs { pairs_of result ≡ (P.bytes prefix, value) ∷ [] }
     {
         DefaultNode {
-            prefix,
-            storage: Storage::Leaf(value),
+            storage: Storage::Leaf(prefix, value),
         }
     }
 
@@ -77,7 +75,7 @@ impl<P: Partial, V> DefaultNode<P, V> {
     pub(crate) fn prefix(&self) -> &P
         ensures { P.bytes result.now ≡ prefix_of self.now }
     {
-        &self.prefix
+        self.storage.prefix()
     }
 
     /// Visits the node: adds one to the counter and returns the prefix.
@@ -86,7 +84,7 @@ impl<P: Partial, V> DefaultNode<P, V> {
         ensures counted { C.number counter.new ≡ C.number counter.old + 1 }
     {
         counter.add_one();
-        &self.prefix
+        self.storage.prefix()
     }
 
     /// Visits one node of each of two trees together, which counts once, and returns their prefixes.
@@ -100,7 +98,7 @@ impl<P: Partial, V> DefaultNode<P, V> {
         ensures counted { C.number counter.new ≡ C.number counter.old + 1 }
     {
         counter.add_one();
-        (&self.prefix, &other.prefix)
+        (self.storage.prefix(), other.storage.prefix())
     }
 
     /// Returns the child at byte `b`.

@@ -202,6 +202,7 @@ impl<K: KeyTrait, V> AdaptiveRadixTree<K, V> {
     {
         self.try_prefix_values_for_each_by_ref_bytes(prefix, &mut f)
     }
+
     /// Calls `f` with a view of each key within two bounds and with its value, in order; with none if the end is below
     /// the start. The caller keeps `f`.
     ///

@@ -36,6 +36,7 @@ impl<K: KeyTrait, V> AdaptiveRadixTree<K, V> {
         self.seen()
             .count_prefix_bytes_counted(prefix, &mut Visits::new())
     }
+
     /// Returns the number of pairs within two bounds; 0 if the end is below the start. Makes no key, allocates nothing.
     pub fn count_range(&self, start: Bound<K>, end: Bound<K>) -> usize
     where

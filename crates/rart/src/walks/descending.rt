@@ -72,6 +72,7 @@ impl<K: KeyTrait + Drop, V> AdaptiveRadixTree<K, V> {
     {
         self.seen().range_descending(start, end)
     }
+
     /// Returns an iterator over the pairs within two bounds, whose bytes may be more than any key has, descending by
     /// key, as [`range_descending`](Self::range_descending).
     ///

@@ -32,6 +32,7 @@ impl<K: KeyTrait + Drop, V> AdaptiveRadixTree<K, V> {
     {
         self.seen().range(start, end)
     }
+
     /// Returns an iterator over the pairs within two bounds, whose bytes may be more than any key has, as
     /// [`range`](Self::range).
     ///

@@ -1,23 +1,25 @@
 //! A part of a key whose bytes are stored inline, and read by contracts as `arr_partial_bytes`.
-ghost use Rattle.std.specs.Prelude.{◌≡◌, ◌-◌, ◌≤◌, length, drop, replicate};
+ghost use Rattle.std.specs.Prelude.{◌≡◌, ◌≤◌, length};
 ghost use Rattle.rart_keys.specs.KeyBytes.{AreBytes};
+ghost use Rattle.rart_keys.specs.PartLengths.{part_length};
 
 use crate::common_prefix::common_prefix_length;
 use crate::inline_bytes::joined_bytes;
 use crate::keys::KeyTrait;
 use crate::keys::array_key::ArrayKey;
 use crate::partials::Partial;
+use crate::partials::part_length::{mark_length, part_length};
 use std::alloc::AllocError;
 use std::slice::Iter;
 
-/// Holds at most `SIZE` bytes of a key. The bytes of the array after them are zero.
+/// Holds at most `SIZE` bytes of a key.
 #[derive(Debug, Drop)]
 pub struct ArrPartial<const SIZE: usize> {
     stored: [u8; SIZE],
-    len: usize,
-    ghost in_range: { len ≤ SIZE },
+    // the code of the length
+    code: u32,
+    ghost in_range: { part_length SIZE stored code ≤ SIZE },
     ghost full_width: { length stored ≡ SIZE },
-    ghost zeros_after: { drop len stored ≡ replicate (SIZE - len) 0 },
     ghost are_bytes: { AreBytes stored },
 }
 
@@ -46,18 +48,17 @@ impl<const SIZE: usize> ArrPartial<SIZE> {
         ensures value { result.now ≡ arr_partial_bytes self.now }
         ensures within { length (arr_partial_bytes self.now) ≤ SIZE }
     {
-        &self.stored[..self.len]
+        &self.stored[..part_length(&self.stored, self.code)]
     }
 
-    // Every part but a clone is made here, so the zeros after the bytes are proved once.
+    // Every part but a clone is made here.
     fn from_two(first: &[u8], second: &[u8]) -> Self
         requires { length first.now + length second.now ≤ SIZE }
         ensures { arr_partial_bytes result ≡ first.now ++ second.now }
     {
-        ArrPartial {
-            stored: joined_bytes(first, second),
-            len: first.len() + second.len(),
-        }
+        let mut stored = joined_bytes(first, second);
+        let code = mark_length(&mut stored, first.len() + second.len());
+        ArrPartial { stored, code }
     }
 }
 
@@ -71,7 +72,7 @@ impl<const SIZE: usize> Clone for ArrPartial<SIZE> {
     fn clone(&self) -> Result<Self, AllocError> {
         Ok(ArrPartial {
             stored: self.stored,
-            len: self.len,
+            code: self.code,
         })
     }
 }
@@ -104,6 +105,7 @@ impl<const SIZE: usize> Partial for ArrPartial<SIZE> {
     ghost use Rattle.std.specs.Prelude.{Some};
     ghost use Rattle.rart_keys.specs.ArrPartialBytes.{arr_partial_bytes};
     ghost use Rattle.rart_keys.specs.KeyBytes.{length-take-within, AreBytes-take};
+    ghost use Rattle.rart_keys.specs.PartLengths.{part_length};
 
     const MAXIMUM_SIZE: Option<usize> = Some(SIZE);
 
@@ -140,7 +142,7 @@ impl<const SIZE: usize> Partial for ArrPartial<SIZE> {
     }
 
     fn len(&self) -> usize {
-        self.len
+        part_length(&self.stored, self.code)
     }
 
     fn prefix_length_common(&self, other: &Self) -> usize {
@@ -159,9 +161,11 @@ impl<const SIZE: usize> Partial for ArrPartial<SIZE> {
         self.as_ref()
     }
 
-    ghost within = { λ p. length-take-within p.len SIZE p.stored p.in_range };
+    ghost within = { λ p. length-take-within (part_length SIZE p.stored p.code) SIZE p.stored
+        p.in_range };
 
-    ghost are_bytes = { λ p. AreBytes-take p.len p.stored p.are_bytes };
+    ghost are_bytes = { λ p. AreBytes-take (part_length SIZE p.stored p.code) p.stored
+        p.are_bytes };
 }
 
 impl<const SIZE: usize> From<ArrayKey<SIZE>> for ArrPartial<SIZE> {

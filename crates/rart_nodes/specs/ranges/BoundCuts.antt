@@ -1,5 +1,5 @@
--- What is left of a bound for the keys that begin with some bytes, by what follows these: `Unbounded` where all of them
--- are within it, none where no one is.
+-- A bound for the keys that begin with some bytes, by the bytes that follow: `Unbounded` if all of these keys are within
+-- it, and `None` if none of them is.
 use Rattle.std.specs.Prelude.{ℕ, Bool, true, false, List, [], ◌∷◌, Option, Some, None}
 use Rattle.std.specs.Ordering.{nat_cmp, match_ordering}
 use Rattle.std.specs.Cmp.Lexicographic.{slice_cmp}
@@ -19,12 +19,12 @@ abbrev pub is_in : End → Bound (List ℕ) → List ℕ → Bool
 is_in First a k = is_from a k
 is_in Last b k = is_to b k
 
--- whether keys that compare so with the bytes of a bound, and aren't equal to them, are within it
+-- whether keys other than a bound's own, which compare so with its bytes, are within it
 abbrev pub is_inside : End → Ordering → Bool
 is_inside First o = match_ordering o false false true
 is_inside Last o = match_ordering o true false false
 
--- all keys are within, or no key is
+-- the bound of keys that are all within, or all not
 abbrev pub unbounded_if : Bool → Option (Bound (List ℕ))
 unbounded_if true = Some Unbounded
 unbounded_if false = None
@@ -40,12 +40,12 @@ is_bounded Unbounded = false
 is_bounded (Included a) = true
 is_bounded (Excluded a) = true
 
--- by what its bytes have after a prefix, or else by how the prefix compares with them
+-- the bound of the bytes after a prefix; if the prefix doesn't begin the bytes, how the two compare decides
 abbrev pub rest_past : End → Ordering → Bool → Option (List ℕ) → Option (Bound (List ℕ))
 rest_past e o h None = unbounded_if (is_inside e o)
 rest_past e o h (Some r) = Some (bound_with h r)
 
--- what is left of a bound after a prefix
+-- a bound for keys that begin with a prefix, by the bytes after it
 abbrev pub bound_past : End → List ℕ → Bound (List ℕ) → Option (Bound (List ℕ))
 bound_past e p Unbounded = Some Unbounded
 bound_past e p (Included s) = rest_past e (slice_cmp nat_cmp p s) true (strip_prefix p s)
@@ -56,10 +56,11 @@ abbrev pub first_cmp : ℕ → List ℕ → Ordering
 first_cmp c [] = Greater
 first_cmp c (b ∷ s) = nat_cmp c b
 
+-- a bound for keys whose first byte compares so with its first byte
 abbrev pub bound_by : End → Bound (List ℕ) → Ordering → Option (Bound (List ℕ))
 bound_by e a o = match_ordering o (unbounded_if (is_inside e Less)) (Some a) (unbounded_if (is_inside e Greater))
 
--- what is left of a bound for the keys that begin with a byte, which is not dropped from them
+-- a bound for keys that begin with a byte, which stays in front of them
 abbrev pub bound_at : End → ℕ → Bound (List ℕ) → Option (Bound (List ℕ))
 bound_at e c Unbounded = Some Unbounded
 bound_at e c (Included s) = bound_by e (Included s) (first_cmp c s)

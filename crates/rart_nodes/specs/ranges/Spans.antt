@@ -1,4 +1,4 @@
--- What a walk over views between two bounds gives, and how many nodes it may visit.
+-- What walks and counts between two bounds give, and how many nodes they may visit.
 use Rattle.std.specs.Prelude.{ℕ, ◌+◌, ◌*◌, List, length}
 use Rattle.std.specs.declared.ops.Bound.{Bound}
 use Rattle.rart_keys.specs.Ranges.{between, bound_bytes}

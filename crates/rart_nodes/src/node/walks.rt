@@ -15,5 +15,6 @@ pub(crate) mod matching;
 mod nearest;
 mod range_views;
 mod try_for_each;
+mod try_range_views;
 mod try_views;
 mod visit;

@@ -1,6 +1,7 @@
 -- The positions of a set, as a list.
 use Rattle.std.proofs.Common.{◌≡◌, ℕ, zero, suc, ◌<◌, ◌≤◌, ◌+◌, Bool, true, false, cond, eqb, not, ◌&&◌, List, [], ◌∷◌}
-use Rattle.std.proofs.Common.{Option, Some, None, length, arith, sym, ap, ◌∙◌, refl, ⊎_elim}
+use Rattle.std.proofs.Common.{Option, Some, None, length, arith, sym, ap, ◌∙◌, refl, ⊎_elim, if◌then◌else◌}
+use Rattle.std.specs.Prelude.{nat_lt}
 use Rattle.std.proofs.lemmas.Bool.{ne_eqb, lt-ltb, le-ltb, cases_lt}
 use Rattle.std.proofs.lemmas.Bool.Decides.{eqb_tells}
 use Rattle.rart_parts.specs.Bits.{members_from, members, positions_above, IsLast}
@@ -142,3 +143,28 @@ pub last_agrees : (f g : ℕ → Bool) (n : ℕ) → ((k : ℕ) → k < n → f 
     → IsLast g n r
 last_agrees f g n e None h = λ k l. sym (e k l) ∙ h k l
 last_agrees f g n e (Some p) h = (h.0, sym (e p h.0) ∙ h.1, λ k m l. sym (e k l) ∙ h.2 k m l)
+
+members_from-passed : (has : ℕ → Bool) (p from count : ℕ) → members_from (λ k. nat_lt p k && has k) from count
+    ≡ positions_above p (members_from has from count)
+members_from-passed has p from zero = refl
+members_from-passed has p from (suc count) = rw (members_from-passed has p (suc from) count) (elim (has from)
+    as (λ b. (if nat_lt p from && b then from ∷ positions_above p (members_from has (suc from) count)
+    else positions_above p (members_from has (suc from) count))
+    ≡ positions_above p (if b then from ∷ members_from has (suc from) count else members_from has (suc from) count)) [
+      | true ↦ elim (nat_lt p from)
+          as (λ t. (if t && true then from ∷ positions_above p (members_from has (suc from) count)
+          else positions_above p (members_from has (suc from) count))
+          ≡ (if t then from ∷ positions_above p (members_from has (suc from) count)
+          else positions_above p (members_from has (suc from) count))) [ true ↦ refl | false ↦ refl ]
+      | false ↦ elim (nat_lt p from)
+          as (λ t. (if t && false then from ∷ positions_above p (members_from has (suc from) count)
+          else positions_above p (members_from has (suc from) count))
+          ≡ positions_above p (members_from has (suc from) count)) [ true ↦ refl | false ↦ refl ]
+    ])
+
+-- a set that has lost the positions up to p
+pub members-passed : (has left : ℕ → Bool) (capacity p : ℕ)
+    → ((k : ℕ) → k < capacity → left k ≡ (nat_lt p k && has k))
+    → members left capacity ≡ positions_above p (members has capacity)
+members-passed has left capacity p e = members_from-same left (λ k. nat_lt p k && has k) 0 capacity
+    (λ k low high. e k (omega arith)) ∙ members_from-passed has p 0 capacity

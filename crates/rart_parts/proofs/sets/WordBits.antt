@@ -5,13 +5,14 @@ use Rattle.std.proofs.Common.{⊎_elim, subst, rules, w64, refl}
 use Prim.Native.Nat.{min}
 use mir.Val.{bits}
 use Rattle.std.specs.Int.{Width, bit_at, bit_not, trailing_zeros, trailing_ones, leading_zeros}
-use Rattle.std.proofs.lemmas.Bool.{eq-eqb, ne_eqb, cases_lt}
+use Rattle.std.proofs.Math.Dec.{leb}
+use Rattle.std.proofs.lemmas.Bool.{eq-eqb, ne_eqb, cases_lt, le-leb, lt-leb}
 use Rattle.std.proofs.lemmas.Bool.Decides.{eqb_tells}
 use Rattle.std.proofs.lemmas.Nat.{or_lt, leading_top}
 use Rattle.std.proofs.lemmas.Nat.Bits.{and_pow, bit_at_lowest, bit_at-suc, bit_at_set_same, bit_at_set_other}
 use Rattle.std.proofs.lemmas.Nat.Bits.{bit_at_clear_same, bit_at_clear_other, bit_at-trailing_zeros}
 use Rattle.std.proofs.lemmas.Nat.Bits.{bit_at-trailing_ones, bit_at_ones, bit_at_above, bit_at-zero, bit_at-lt}
-use Rattle.std.proofs.lemmas.Nat.Bits.{bit_at_and}
+use Rattle.std.proofs.lemmas.Nat.Bits.{bit_at_and, bit_at_not, bit_at_ones_above}
 use Rattle.std.proofs.Math.Nat.{mod-eq_of_lt, div-eq_of_lt-le}
 use Rattle.std.proofs.Math.Pow.{pow-lt}
 use lib.Count.{ones_step, ones-le}
@@ -115,6 +116,26 @@ pub bits_kept : (n k : ℕ) → k < 64 → (i : ℕ) → i < k → has_bit (bit_
     ≡ has_bit n i
 bits_kept n k h i l = ap (λ m. has_bit (bit_and n (m - 1)) i) (one_shifted w64 k h) ∙ ap (λ b. eqb b 1)
     (bit_at_and n (2 ^ k - 1) i ∙ ap (min (bit_at n i)) (bit_at_ones k i l) ∙ min_one (bit_at n i) (bit_at-lt n i))
+
+-- ---- the bits from a position on
+min_zero : (b : ℕ) → b < 2 → min b 0 ≡ 0
+min_zero zero h = refl
+min_zero (suc zero) h = refl
+min_zero (suc (suc b)) h = absurd (omega arith)
+
+pub bits_after : (n k : ℕ) → k < 64 → (i : ℕ) → i < 64
+    → has_bit (bit_and n (bit_not w64 (1 * 2 ^ k % 2 ^ bits w64 - 1))) i ≡ (leb k i && has_bit n i)
+bits_after n k h i l =
+    let low = ap (λ m. has_bit (bit_and n (bit_not w64 (m - 1))) i) (one_shifted w64 k h) in
+    let fits : 2 ^ k - 1 < 2 ^ bits w64 = omega (arith, pow-lt h) in
+    let each = bit_at_and n (bit_not w64 (2 ^ k - 1)) i
+    ∙ ap (min (bit_at n i)) (bit_at_not w64 (2 ^ k - 1) i fits l) in
+    low ∙ ap (λ b. eqb b 1) each ∙ ⊎_elim
+    (λ under. ap (λ b. eqb (min (bit_at n i) (1 - b)) 1) (bit_at_ones k i under)
+    ∙ ap (λ b. eqb b 1) (min_zero (bit_at n i) (bit_at-lt n i)) ∙ ap (λ b. b && has_bit n i) (sym (lt-leb k i under)))
+    (λ from. ap (λ b. eqb (min (bit_at n i) (1 - b)) 1) (bit_at_ones_above k i from)
+    ∙ ap (λ b. eqb b 1) (min_one (bit_at n i) (bit_at-lt n i)) ∙ ap (λ b. b && has_bit n i) (sym (le-leb k i from)))
+    (cases_lt i k)
 
 -- ---- how many bits
 lowest_count : (b : ℕ) (x : ℕ) (l : List ℕ) → b < 2 → length (cond (eqb b 1) (x ∷ l) l) ≡ b + length l

@@ -1,7 +1,7 @@
 -- A row of words, read as a set of positions: position k is bit `k mod width` of word `k div width`.
-use Rattle.std.proofs.Common.{◌≡◌, ℕ, suc, ◌<◌, ◌≤◌, ◌+◌, ◌-◌, ◌*◌, ◌/◌, ◌%◌, Bool, true, false, eqb, List, map, length}
-use Rattle.std.proofs.Common.{get_or, set, sym, ap, ◌∙◌, arith, ⊎_elim, rules}
-use Rattle.std.specs.Prelude.{replicate}
+use Rattle.std.proofs.Common.{◌≡◌, ◌≢◌, ℕ, suc, ◌<◌, ◌≤◌, ◌+◌, ◌-◌, ◌*◌, ◌/◌, ◌%◌, Bool, true, false, eqb, List, map, length}
+use Rattle.std.proofs.Common.{get_or, set, subst, sym, ap, ◌∙◌, arith, ⊎_elim, rules}
+use Rattle.std.specs.Prelude.{nat_le, nat_lt, ◌&&◌, replicate}
 use Rattle.std.proofs.lemmas.Bool.{eq-eqb, ne_eqb, cases_lt}
 use Rattle.std.proofs.lemmas.Bool.Decides.{eqb_tells}
 use Rattle.std.proofs.lemmas.List.{get_or-set_same, get_or-set_other, get_or-map, get_or-replicate, length-replicate}
@@ -85,6 +85,15 @@ module _ {W : Type 0} (width : ℕ) (number : W → ℕ) (p : 0 < width) where
   row_has ws i j x h e l =
       (λ r. has_bit (get_or (map number ws) (div-mul-add i width j l r) 0) (mod-mul-add i width j l r))
       ∙ ap (λ n. has_bit n j) (word_is ws i x h e)
+
+  -- the word of another row was replaced
+  other_row : (ws : List W) (i k : ℕ) (y : W) → k < length ws * width → k / width ≢ i
+      → words_have width number (set ws i y) k ≡ words_have width number ws k
+  other_row ws i k y h other =
+      let lk = word_within (length ws) width k p h in
+      let within : k / width < length (set ws i y) = simp length-set lk in
+      ap (λ n. has_bit n (k % width)) (get_or-map number (set ws i y) (k / width) y 0 within
+      ∙ ap number (get_or-set_other ws i (k / width) y y other) ∙ sym (get_or-map number ws (k / width) y 0 lk))
 
   -- a position in the row of word i
   split_row : (i k : ℕ) → i * width ≤ k → k < i * width + width → (j : ℕ) × (j < width) × (k ≡ i * width + j)
@@ -172,3 +181,37 @@ module _ {W : Type 0} (width : ℕ) (number : W → ℕ) (p : 0 < width) where
     next_row i s
         width h,
   )
+
+  -- word i has lost its bits below `from`, and the words before it the positions up to q
+  module _ (ws first : List W) (s i q from : ℕ) (x y : W) (len : length ws ≡ s) (h : i < s) (e : x ≡ get_or ws i x)
+      (one : (j : ℕ) → j < width → has_bit (number y) j ≡ (nat_le from j && has_bit (number x) j))
+      (same : (j : ℕ) → j < width → nat_le from j ≡ nat_lt q (i * width + j))
+      (passed : (k : ℕ) → k < i * width → words_have width number ws k ≡ (nat_lt q k && words_have width number first k))
+      (left : (k : ℕ) → i * width ≤ k → k < s * width → words_have width number ws k ≡ words_have width number first k)
+    where
+      in_this_row : (j : ℕ) → j < width → words_have width number (set ws i y) (i * width + j)
+          ≡ (nat_lt q (i * width + j) && words_have width number first (i * width + j))
+      in_this_row j l =
+          let here : y ≡ get_or (set ws i y) i y = sym (get_or-set_same ws i y y (omega (arith, h, len))) in
+          let old = sym (row_has ws i j x (omega (arith, h, len)) e l)
+          ∙ left (i * width + j) (omega arith) (in_row i s width j h l) in
+          row_has (set ws i y) i j y (simp length-set (omega (arith, h, len))) here l ∙ one j l
+          ∙ (λ t. same j l t && old t)
+
+      pub passed_more : (k : ℕ) → k < (i + 1) * width
+          → words_have width number (set ws i y) k ≡ (nat_lt q k && words_have width number first k)
+      passed_more k l =
+          let end = next_row i s width h in
+          ⊎_elim
+          (λ m. other_row ws i k y (subst (λ n. k < n * width) (sym len) (omega (arith, m, end)))
+          (λ d. omega (arith, m, div-add-mod' k width, ap (λ n. n * width) d)) ∙ passed k m)
+          (λ m. let r = split_row i k m (omega (arith, l)) in
+          ap (words_have width number (set ws i y)) r.2 ∙ in_this_row r.0 r.1
+          ∙ sym (ap (λ n. nat_lt q n && words_have width number first n) r.2))
+          (cases_lt k (i * width))
+
+      pub left_more : (k : ℕ) → (i + 1) * width ≤ k → k < s * width
+          → words_have width number (set ws i y) k ≡ words_have width number first k
+      left_more k low high = other_row ws i k y (subst (λ n. k < n * width) (sym len) high)
+          (λ d. omega (arith, low, div-add-mod' k width, mod-lt k p, ap (λ n. n * width) d))
+          ∙ left k (omega (arith, low)) high

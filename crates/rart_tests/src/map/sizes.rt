@@ -11,10 +11,10 @@ type WideNode = DefaultNode<ArrPartial<8>, [u64; 8]>;
 
 #[test]
 fn nodes_and_their_places_keep_their_sizes(rt: HostRuntime) {
-    assert_eq!(rt; size_of::<Node<8>>(), 32);
-    assert_eq!(rt; size_of::<Option<Node<8>>>(), 40);
-    assert_eq!(rt; size_of::<Node<32>>(), 56);
-    assert_eq!(rt; size_of::<Option<Node<32>>>(), 64);
-    assert_eq!(rt; size_of::<WideNode>(), 88);
-    assert_eq!(rt; size_of::<Option<WideNode>>(), 96);
+    assert_eq!(rt; size_of::<Node<8>>(), 24);
+    assert_eq!(rt; size_of::<Option<Node<8>>>(), 32);
+    assert_eq!(rt; size_of::<Node<32>>(), 48);
+    assert_eq!(rt; size_of::<Option<Node<32>>>(), 56);
+    assert_eq!(rt; size_of::<WideNode>(), 80);
+    assert_eq!(rt; size_of::<Option<WideNode>>(), 88);
 }

@@ -91,10 +91,11 @@ module _ {V : Type 0} where
       (λ q. let f : t ≡ e.1 = cc (rw (eq-yes e.0 b q) at s) in rw (eq-yes e.0 b q, sym q, f) refl)
       (λ n. rw (eq-no e.0 b n) (ap (λ l. e ∷ l) (replaced-same b t es (rw (eq-no e.0 b n) at s)))) (equal_or_not e.0 b)
 
-  pub child-put_back : (p : List ℕ) (old : Option V) {old' : Option V} (w w' b : ℕ) (t t' : Trie V)
+  pub child-put_back : (p : List ℕ) {p' : List ℕ} (old : Option V) {old' : Option V} (w w' b : ℕ) (t t' : Trie V)
       (es es' : List (ℕ × Trie V)) → Some t ≡ child_at b es → t' ≡ t → w' ≡ w → es' ≡ replaced_at b t' es → old' ≡ old
-      → node p old' w' (as_children es') ≡ node p old w (as_children es)
-  child-put_back p old w w' b t t' es es' at et ew ee eo = ap (λ o. node p o w' (as_children es')) eo
+      → p' ≡ p → node p' old' w' (as_children es') ≡ node p old w (as_children es)
+  child-put_back p {p'} old {old'} w w' b t t' es es' at et ew ee eo ep
+      = ap (λ q. node q old' w' (as_children es')) ep ∙ ap (λ o. node p o w' (as_children es')) eo
       ∙ ap (λ z. node p old z (as_children es')) ew
       ∙ ap (λ l. node p old w (as_children l)) (ee ∙ ap (λ z. replaced_at b z es) et ∙ replaced-same b t es at)
 

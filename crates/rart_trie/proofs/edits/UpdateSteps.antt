@@ -186,7 +186,7 @@ module _ {V : Type 0} {p k r : List ℕ} {v : Option V} {w b : ℕ} {t : Trie V}
     (es' : List (ℕ × Trie V)) (em : w' ≡ w) (ee : es' ≡ replaced_at b t' es) where
   left-child : (y : Option V) → Some t' ≡ tree_left r y (Some t) → Some (node p v w' (as_children es'))
       ≡ tree_left k y (Some (node p v w (as_children es)))
-  left-child None h = ap Some (child-put_back p v w w' b t t' es es' f.there (some-equal t' t h) em ee refl)
+  left-child None h = ap Some (child-put_back p v w w' b t t' es es' f.there (some-equal t' t h) em ee refl refl)
   left-child (Some y) h = ap Some (put-below f y w' t' es'
       (some-equal t' (trie_put r y t) h) em ee)
 

@@ -60,7 +60,7 @@ module _ {V : Type 0} where
       → IsCanonical (node p v w (as_children es)) → Some rest ≡ strip_prefix p k → Some b ≡ slice_get rest 0
       → None ≡ child_at b es → w' ≡ w → es' ≡ es
       → Some (node p v w' (as_children es')) ≡ trie_without_prefix k (node p v w (as_children es))
-  without_prefix-absent p k rest v w w' b es es' c e h at ew ee = ap Some (same-node p v w w' es es' ew ee refl)
+  without_prefix-absent p k rest v w w' b es es' c e h at ew ee = ap Some (same-node p v w w' es es' ew ee refl refl)
       ∙ collapsed-same p v w es es c refl ∙ ap (collapsed_node p v) (sym (without_child-none b rest es at))
       ∙ sym (without_prefix-followed p k rest b v w (as_children es) e h)
 

@@ -136,9 +136,9 @@ module _ {V : Type 0} where
       ∙ ap (λ z. Some (node p None z (as_children (g ∷ h ∷ fs)))) (capacity-less p None w (e ∷ f ∷ es) (g ∷ h ∷ fs) c l)
 
   -- a node with other storage of the same content
-  pub same-node : (p : List ℕ) (v : Option V) {v' : Option V} (w w' : ℕ) (es es' : List (ℕ × Trie V)) → w' ≡ w
-      → es' ≡ es → v' ≡ v → node p v' w' (as_children es') ≡ node p v w (as_children es)
-  same-node p v w w' es es' ew ee ev = rw (ew, ee, ev) refl
+  pub same-node : (p : List ℕ) {p' : List ℕ} (v : Option V) {v' : Option V} (w w' : ℕ) (es es' : List (ℕ × Trie V))
+      → w' ≡ w → es' ≡ es → v' ≡ v → p' ≡ p → node p' v' w' (as_children es') ≡ node p v w (as_children es)
+  same-node p v w w' es es' ew ee ev ep = rw (ew, ee, ev, ep) refl
 
 module _ {V : Type 0} {p k r : List ℕ} {v : Option V} {w b : ℕ} {t : Trie V} {es : List (ℕ × Trie V)}
     (f : Follows p k r v w b t es) where

@@ -8,7 +8,7 @@ use Rattle.rart_trie.specs.declared.node.storage.Storage.{Storage}
 use Rattle.rart_trie.specs.edits.Deletion.{needs_merge, merged_if_needed}
 use Rattle.rart_trie.specs.edits.RetainSteps.{AppliesChild, KeepsFirst, finished_as, finished_node}
 use Rattle.rart_trie.specs.shapes.Shape.{capacity_of}
-use Rattle.rart_trie.specs.storages.Stored.{stored_value}
+use Rattle.rart_trie.specs.storages.Stored.{stored_prefix, stored_value}
 use Rattle.rart_trie.specs.tries.PrefixLaws.{prefix-twice}
 use Rattle.rart_trie.specs.tries.Trie.{Trie, node, Children, no_children, AreCanonical, IsCanonical}
 use Rattle.rart_trie.specs.tries.Trie.{children_in, children_pairs, own_pair, pairs_of, prefix_of, with_prefix}
@@ -76,7 +76,7 @@ module _ {V : Type 0} where
   joined-leaf p n es h = rw h.one h.childless
 
 -- what is done with a child keeps the value of its node
-pub applied-value : {V : Type 0} (h : Bool) (b : ℕ) (below walk : Retention) (s s' : Storage V (Trie V))
+pub applied-value : {P V : Type 0} (h : Bool) (b : ℕ) (below walk : Retention) (s s' : Storage P V (Trie V))
     → AppliesChild h b below walk s s' → stored_value s' ≡ stored_value s
 applied-value h b Done Done s s' a = ap stored_value a
 applied-value h b Done Rejected s s' a = absurd a
@@ -87,3 +87,16 @@ applied-value h b Rejected Refused s s' a = ap stored_value a.0
 applied-value h b Refused Done s s' a = absurd a
 applied-value h b Refused Rejected s s' a = absurd a
 applied-value h b Refused Refused s s' a = ap stored_value a
+
+-- what is done with a child keeps the prefix of its node
+pub applied-prefix : {P V : Type 0} (h : Bool) (b : ℕ) (below walk : Retention) (s s' : Storage P V (Trie V))
+    → AppliesChild h b below walk s s' → stored_prefix s' ≡ stored_prefix s
+applied-prefix h b Done Done s s' a = ap stored_prefix a
+applied-prefix h b Done Rejected s s' a = absurd a
+applied-prefix h b Done Refused s s' a = absurd a
+applied-prefix h b Rejected Done s s' a = a.4
+applied-prefix h b Rejected Rejected s s' a = ap stored_prefix a.0
+applied-prefix h b Rejected Refused s s' a = ap stored_prefix a.0
+applied-prefix h b Refused Done s s' a = absurd a
+applied-prefix h b Refused Rejected s s' a = absurd a
+applied-prefix h b Refused Refused s s' a = ap stored_prefix a

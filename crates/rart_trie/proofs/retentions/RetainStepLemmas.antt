@@ -251,9 +251,10 @@ module _ {F V : Type 0} (call : Mut F (Bor (List ℕ) × (MutBor V × Unit {0}))
       → Steps q f0 t0 keeps holds walk g p w m b es ds next
   stopped q f0 t0 keeps holds f g p w n m b es ds u i walk next e r = (r, rw e (omega (arith, i.count)))
 
-  pub retaining-step : (q : List ℕ) (f0 : F) (t0 : Trie V) (keeps holds : Bool) (f g : F) (p : List ℕ) (w : Option V)
+  pub retaining-step : {P : Type 0} (q : List ℕ) (f0 : F) (t0 : Trie V) (keeps holds : Bool) (f g : F) (p : List ℕ)
+      (w : Option V)
       (n b : ℕ) (es : List (ℕ × Trie V)) (u x : Trie V) (i : Upcoming call q f0 t0 keeps holds f p w n b es u)
-      (below walk : Retention) (s s' : Storage V (Trie V)) (next : Option ℕ) → IsCanonical x
+      (below walk : Retention) (s s' : Storage P V (Trie V)) (next : Option ℕ) → IsCanonical x
       → KeepsFirst (prefix_of u) (prefix_of x) → RetainsBelow call (q ++ p) below f u x g
       → storage_capacity s ≡ n → child_entries s ≡ replaced_at b x es → AppliesChild holds b below walk s s'
       → next ≡ next_byte walk b (child_entries s')

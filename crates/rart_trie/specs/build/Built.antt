@@ -6,5 +6,5 @@ use Rattle.rart_trie.specs.tries.Trie.{Trie, node}
 use Rattle.rart_trie.specs.tries.TrieCode.{as_children}
 
 -- the node with this prefix and the value and the children of a storage
-abbrev pub built : {V : Type 0} → List ℕ → Storage V (Trie V) → Trie V
+abbrev pub built : {P V : Type 0} → List ℕ → Storage P V (Trie V) → Trie V
 built p s = node p (stored_value s) (storage_capacity s) (as_children (child_entries s))

@@ -1,9 +1,9 @@
 -- What the calls of a node leave of it.
-use Rattle.std.specs.Prelude.{ℕ, ◌==◌, if◌then◌else◌, nat_lt, length, Some}
+use Rattle.std.specs.Prelude.{ℕ, List, ◌==◌, if◌then◌else◌, nat_lt, length, Some}
 use Rattle.rart_trie.specs.declared.node.storage.Storage.{Storage}
 use Rattle.rart_trie.specs.storages.Capacities.{widened_capacity}
-use Rattle.rart_trie.specs.storages.Stored.{child_entries, storage_capacity, stored_value}
-use Rattle.rart_trie.specs.tries.Trie.{Trie, node, Children, no_children, child, edges_of, prefix_of}
+use Rattle.rart_trie.specs.storages.Stored.{child_entries, storage_capacity, stored_prefix, stored_value}
+use Rattle.rart_trie.specs.tries.Trie.{Trie, node, Children, no_children, child, edges_of}
 use Rattle.rart_trie.specs.tries.TrieCode.{as_children}
 
 -- children with one more, before the first greater byte
@@ -20,6 +20,7 @@ with_child b t (node p v w cs) = node p v (widened_capacity (length (edges_of cs
 abbrev pub with_value : {V : Type 0} → V → Trie V → Trie V
 with_value x (node p v w cs) = node p (Some x) w cs
 
--- a node of the same prefix over a storage
-abbrev pub with_storage : {V : Type 0} → Trie V → Storage V (Trie V) → Trie V
-with_storage t s = node (prefix_of t) (stored_value s) (storage_capacity s) (as_children (child_entries s))
+-- the node over a storage
+abbrev pub stored_node : {P V : Type 0} → (P → List ℕ) → Storage P V (Trie V) → Trie V
+stored_node bytes s = node (bytes (stored_prefix s)) (stored_value s) (storage_capacity s)
+    (as_children (child_entries s))

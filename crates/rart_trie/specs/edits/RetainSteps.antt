@@ -11,7 +11,7 @@ use Rattle.rart_trie.specs.edits.Deletion.{merged_if_needed}
 use Rattle.rart_trie.specs.edits.RemoveAllocations.{trie_remove_allocates}
 use Rattle.rart_trie.specs.edits.Retentions.{CalledFor, RetainsAll, RetainsFirst}
 use Rattle.rart_trie.specs.storages.Stored.{ShrinksStored, capacity_without, child_entries, storage_capacity}
-use Rattle.rart_trie.specs.storages.Stored.{stored_value}
+use Rattle.rart_trie.specs.storages.Stored.{stored_prefix, stored_value}
 use Rattle.rart_trie.specs.tries.Trie.{Trie, node, Children, no_children, child, StartsWith, children_in, pairs_of}
 
 -- a byte that begins p begins q
@@ -47,17 +47,17 @@ module _ {F V : Type 0} (call : Mut F (Bor (List ℕ) × (MutBor V × Unit {0}))
   RetainsTree walk f (Some t) None f' = ⊥
   RetainsTree walk f (Some t) (Some u) f' = RetainsBelow [] walk f t u f'
 
--- The child at b was removed, and the capacity is that of the rest; the value stays. A node without a value has another
--- child.
-abbrev pub RemovesChild : {V : Type 0} → Bool → ℕ → Storage V (Trie V) → Storage V (Trie V) → Type 0
+-- The child at b was removed, and the capacity is that of the rest; value and prefix stay. A node without a value has
+-- another child.
+abbrev pub RemovesChild : {P V : Type 0} → Bool → ℕ → Storage P V (Trie V) → Storage P V (Trie V) → Type 0
 RemovesChild h b s s' = (child_entries s' ≡ without_byte b (child_entries s))
     × (storage_capacity s' ≡ capacity_without b s (length (child_entries s')))
     × ((h ≡ true) ⊎ (1 < length (child_entries s)))
-    × (stored_value s' ≡ stored_value s)
+    × (stored_value s' ≡ stored_value s) × (stored_prefix s' ≡ stored_prefix s)
 
 -- What is done with the child at b after a walk over it, at a node that holds a value or not, and what of the node.
-abbrev pub AppliesChild : {V : Type 0} → Bool → ℕ → Retention → Retention → Storage V (Trie V)
-    → Storage V (Trie V) → Type 0
+abbrev pub AppliesChild : {P V : Type 0} → Bool → ℕ → Retention → Retention → Storage P V (Trie V)
+    → Storage P V (Trie V) → Type 0
 AppliesChild h b Done Done s s' = s' ≡ s
 AppliesChild h b Done Rejected s s' = ⊥
 AppliesChild h b Done Refused s s' = ⊥

@@ -31,12 +31,11 @@ count-ascending : {V : Type 0} (es : List (ℕ × Trie V)) → child_count (as_c
 count-ascending [] = refl
 count-ascending (e ∷ es) = omega (arith, count-with_another e.0 e.1 (sorted_entries es), count-ascending es)
 
-pub deep_le-stored : {P V : Type 0} (G : Ghosts P) (p : P) (s : Storage V (Trie V))
-    → deep-DefaultNode P V G (record { prefix = p; storage = s }) ≤ child_count (as_children
-    (child_entries s)) + 1
-deep_le-stored G p Empty = omega arith
-deep_le-stored G p (Leaf v) = omega arith
-deep_le-stored G p (Node4 m) = omega (arith, most-children m.entries)
-deep_le-stored G p (Node16 m) = omega (arith, most-children m.entries)
-deep_le-stored G p (Node48 m) = omega (arith, most-children m.entries, count-ascending m.entries)
-deep_le-stored G p (Node256 m) = omega (arith, most-children m.entries)
+pub deep_le-stored : {P V : Type 0} (G : Ghosts P) (s : Storage P V (Trie V))
+    → deep-DefaultNode P V G (record { storage = s }) ≤ child_count (as_children (child_entries s)) + 1
+deep_le-stored G (Empty p) = omega arith
+deep_le-stored G (Leaf p v) = omega arith
+deep_le-stored G (Node4 p m) = omega (arith, most-children m.entries)
+deep_le-stored G (Node16 p m) = omega (arith, most-children m.entries)
+deep_le-stored G (Node48 p m) = omega (arith, most-children m.entries, count-ascending m.entries)
+deep_le-stored G (Node256 p m) = omega (arith, most-children m.entries)

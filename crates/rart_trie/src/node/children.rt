@@ -41,6 +41,8 @@ impl<'a, P: Partial, V> Iterator for NodeIter<'a, P, V> {
 
     ghost remaining = { item_count (λ rest. rest) };
 
+    // Inline, as each step of a walk calls it.
+    #[inline(always)]
     fn next(&mut self) -> Option<(u8, &'a DefaultNode<P, V>)> {
         self.children.take_next()
     }
@@ -84,7 +86,7 @@ impl<P: Partial, V> DefaultNode<P, V> {
         let Some(most) = P::MAXIMUM_SIZE else {
             return true;
         };
-        let spare = most - self.prefix.len();
+        let spare = most - self.prefix().len();
         let mut children = self.iter();
         while let Some((_byte, child)) = children.next() {
             if child.prefix().len() > spare {

@@ -6,9 +6,9 @@ ghost use Rattle.std.specs.Option.{option_copied, option_copied_mut};
 ghost use Rattle.rart_parts.specs.Errors.{IsMemory};
 ghost use Rattle.rart_trie.specs.edits.ChildChanges.{child_value, with_child_replaced, with_child_value};
 ghost use Rattle.rart_trie.specs.edits.Deletion.{JoinsWithin, ShrinksWithout, without_child};
-ghost use Rattle.rart_trie.specs.edits.NodeEdits.{with_child, with_storage, with_value};
+ghost use Rattle.rart_trie.specs.edits.NodeEdits.{stored_node, with_child, with_value};
 ghost use Rattle.rart_trie.specs.edits.Lends.{lends_storage};
-ghost use Rattle.rart_trie.specs.storages.Stored.{child_entries, storage_capacity, stored_value};
+ghost use Rattle.rart_trie.specs.storages.Stored.{child_entries, storage_capacity, stored_prefix, stored_value};
 ghost use Rattle.rart_trie.specs.tries.Trie.{Trie, node, no_children, leaf, capacity_in, children_in, edges_of};
 ghost use Rattle.rart_trie.specs.tries.Trie.{prefix_of, value_of, child_in};
 
@@ -134,8 +134,7 @@ impl<P: Partial, V> Node<P, V> for DefaultNode<P, V> {
 
     fn new_leaf(prefix: P, value: V) -> Self {
         DefaultNode {
-            prefix,
-            storage: Storage::Leaf(value),
+            storage: Storage::Leaf(prefix, value),
         }
     }
 
@@ -205,19 +204,20 @@ impl<P: Partial, V> Node<P, V> for DefaultNode<P, V> {
 }
 
 impl<P: Partial, V> DefaultNode<P, V> {
-    // A node without value or children over this storage.
-    fn over(prefix: P, storage: Storage<V, Self>) -> Self
+    // A node over this storage, which has neither value nor children.
+    fn over(storage: Storage<P, V, Self>) -> Self
         requires entries { child_entries storage ≡ [] }
         requires value { stored_value storage ≡ None }
-        ensures { result ≡ node (P.bytes prefix) None (storage_capacity storage) no_children }
+        ensures { result
+            ≡ node (P.bytes (stored_prefix storage)) None (storage_capacity storage) no_children }
     {
-        DefaultNode { prefix, storage }
+        DefaultNode { storage }
     }
 
     // A mutable borrow of the storage. Through it, the loan of a child is two loans, each from another type.
-    fn storage_mut(&mut self) -> &mut Storage<V, Self>
+    fn storage_mut(&mut self) -> &mut Storage<P, V, Self>
         ensures* writes_back { sem 𝓛 (lends_storage P.row V.row P.Partial self.entry result) }
-        ensures storage { with_storage self.old result.now ≡ self.old }
+        ensures storage { stored_node P.bytes result.now ≡ self.old }
     {
         &mut self.storage
     }
@@ -231,8 +231,8 @@ impl<P: Partial, V> DefaultNode<P, V> {
         ensures ok { IfOk result (λ n. n ≡ node (P.bytes prefix) None 4 no_children) }
         ensures memory { IfErr result IsMemory }
     {
-        let storage = Storage::new_4(alloc)?;
-        Ok(DefaultNode::over(prefix, storage))
+        let storage = Storage::new_4(alloc, prefix)?;
+        Ok(DefaultNode::over(storage))
     }
 
     /// Returns a node without value or children, with storage for 16 children.
@@ -244,8 +244,8 @@ impl<P: Partial, V> DefaultNode<P, V> {
         ensures ok { IfOk result (λ n. n ≡ node (P.bytes prefix) None 16 no_children) }
         ensures memory { IfErr result IsMemory }
     {
-        let storage = Storage::new_16(alloc)?;
-        Ok(DefaultNode::over(prefix, storage))
+        let storage = Storage::new_16(alloc, prefix)?;
+        Ok(DefaultNode::over(storage))
     }
 
     /// Returns a node without value or children, with storage for 48 children.
@@ -257,8 +257,8 @@ impl<P: Partial, V> DefaultNode<P, V> {
         ensures ok { IfOk result (λ n. n ≡ node (P.bytes prefix) None 48 no_children) }
         ensures memory { IfErr result IsMemory }
     {
-        let storage = Storage::new_48(alloc)?;
-        Ok(DefaultNode::over(prefix, storage))
+        let storage = Storage::new_48(alloc, prefix)?;
+        Ok(DefaultNode::over(storage))
     }
 
     /// Returns a node without value or children, with storage for 256 children.
@@ -270,7 +270,7 @@ impl<P: Partial, V> DefaultNode<P, V> {
         ensures ok { IfOk result (λ n. n ≡ node (P.bytes prefix) None 256 no_children) }
         ensures memory { IfErr result IsMemory }
     {
-        let storage = Storage::new_256(alloc)?;
-        Ok(DefaultNode::over(prefix, storage))
+        let storage = Storage::new_256(alloc, prefix)?;
+        Ok(DefaultNode::over(storage))
     }
 }

@@ -1,11 +1,11 @@
-//! The value and the children of a node, the children in one of four maps or in none.
+//! The prefix, the value and the children of a node, the children in one of four maps or in none.
 
-// A contract reads storage as a value, an ascending list of entries and a capacity.
+// A contract reads storage as a prefix, a value, an ascending list of entries and a capacity.
 
 ghost use Rattle.std.specs.Prelude.{◌≡◌, ◌<◌, [], length, None};
 ghost use Rattle.std.specs.Option.{option_copied};
 ghost use Rattle.rart_parts.specs.Entries.{child_at, with_entry, without_byte};
-ghost use Rattle.rart_trie.specs.storages.Stored.{child_entries, storage_capacity, stored_value};
+ghost use Rattle.rart_trie.specs.storages.Stored.{child_entries, storage_capacity, stored_prefix, stored_value};
 
 use rart_maps::mapping::{DirectMapping, IndexedMapping, NodeMapping, SortedKeyedMapping};
 use rart_parts::utils::bitset::Bitset64;
@@ -14,38 +14,42 @@ pub(crate) mod child_map;
 mod ends;
 mod grow;
 mod last_under;
+mod prefix;
 mod shrink;
 mod value;
 pub(crate) mod walk;
 
-/// The value and the children of a node. A leaf holds its value itself, so that a place for a node is small. Value and
-/// map of an inner node are on the heap. The map holds at most as many children as its capacity: 4, 16, 48 or 256.
+/// The prefix, the value and the children of a node. A leaf holds its value itself, so a place for a node is small.
+/// Value and map of an inner node are on the heap. The map holds at most as many children as its capacity: 4, 16, 48 or
+/// 256.
+// Each kind holds the prefix, so that a short prefix and the tag share a word.
 #[derive(Drop)]
-pub(crate) enum Storage<V, N> {
+pub(crate) enum Storage<P, V, N> {
     /// Neither a value nor a child. It is not allocated.
-    Empty,
+    Empty(P),
     /// A value and no child. It is not allocated.
-    Leaf(V),
+    Leaf(P, V),
     /// At most four children, by sorted keys.
-    Node4(SortedKeyedMapping<N, 4, Option<V>>),
+    Node4(P, SortedKeyedMapping<N, 4, Option<V>>),
     /// At most sixteen children, by sorted keys.
-    Node16(SortedKeyedMapping<N, 16, Option<V>>),
+    Node16(P, SortedKeyedMapping<N, 16, Option<V>>),
     /// At most 48 children, with an index from bytes to slots.
-    Node48(IndexedMapping<N, 48, Bitset64<1>, Option<V>>),
+    Node48(P, IndexedMapping<N, 48, Bitset64<1>, Option<V>>),
     /// A place for each byte.
-    Node256(DirectMapping<N, Option<V>>),
+    Node256(P, DirectMapping<N, Option<V>>),
 }
 
-impl<V, N> Storage<V, N> {
+impl<P, V, N> Storage<P, V, N> {
     /// Returns storage of capacity 0 that holds `value`. It does not allocate.
-    pub(crate) fn childless(value: Option<V>) -> Self
+    pub(crate) fn childless(prefix: P, value: Option<V>) -> Self
         ensures entries { child_entries result ≡ [] }
         ensures capacity { storage_capacity result ≡ 0 }
         ensures value { stored_value result ≡ value }
+        ensures prefix { stored_prefix result ≡ prefix }
     {
         match value {
-            Some(value) => Storage::Leaf(value),
-            None => Storage::Empty,
+            Some(value) => Storage::Leaf(prefix, value),
+            None => Storage::Empty(prefix),
         }
     }
 
@@ -54,11 +58,11 @@ impl<V, N> Storage<V, N> {
         ensures { result ≡ length (child_entries self.now) }
     {
         match self {
-            Storage::Empty | Storage::Leaf(_) => 0,
-            Storage::Node4(map) => map.num_children(),
-            Storage::Node16(map) => map.num_children(),
-            Storage::Node48(map) => map.num_children(),
-            Storage::Node256(map) => map.num_children(),
+            Storage::Empty(_) | Storage::Leaf(_, _) => 0,
+            Storage::Node4(_, map) => map.num_children(),
+            Storage::Node16(_, map) => map.num_children(),
+            Storage::Node48(_, map) => map.num_children(),
+            Storage::Node256(_, map) => map.num_children(),
         }
     }
 
@@ -67,11 +71,11 @@ impl<V, N> Storage<V, N> {
         ensures { result ≡ storage_capacity self.now }
     {
         match self {
-            Storage::Empty | Storage::Leaf(_) => 0,
-            Storage::Node4(_) => 4,
-            Storage::Node16(_) => 16,
-            Storage::Node48(_) => 48,
-            Storage::Node256(_) => 256,
+            Storage::Empty(_) | Storage::Leaf(_, _) => 0,
+            Storage::Node4(_, _) => 4,
+            Storage::Node16(_, _) => 16,
+            Storage::Node48(_, _) => 48,
+            Storage::Node256(_, _) => 256,
         }
     }
 
@@ -80,11 +84,11 @@ impl<V, N> Storage<V, N> {
         ensures { option_copied result ≡ child_at b (child_entries self.now) }
     {
         match self {
-            Storage::Empty | Storage::Leaf(_) => None,
-            Storage::Node4(map) => map.seek_child(b),
-            Storage::Node16(map) => map.seek_child(b),
-            Storage::Node48(map) => map.seek_child(b),
-            Storage::Node256(map) => map.seek_child(b),
+            Storage::Empty(_) | Storage::Leaf(_, _) => None,
+            Storage::Node4(_, map) => map.seek_child(b),
+            Storage::Node16(_, map) => map.seek_child(b),
+            Storage::Node48(_, map) => map.seek_child(b),
+            Storage::Node256(_, map) => map.seek_child(b),
         }
     }
 
@@ -97,13 +101,14 @@ impl<V, N> Storage<V, N> {
         ensures entries { child_entries self.new ≡ with_entry b node (child_entries self.old) }
         ensures capacity { storage_capacity self.new ≡ storage_capacity self.old }
         ensures value_kept { stored_value self.new ≡ stored_value self.old }
+        ensures prefix_kept { stored_prefix self.new ≡ stored_prefix self.old }
     {
         match self {
-            Storage::Empty | Storage::Leaf(_) => unreachable!(),
-            Storage::Node4(map) => map.add_child(b, node),
-            Storage::Node16(map) => map.add_child(b, node),
-            Storage::Node48(map) => map.add_child(b, node),
-            Storage::Node256(map) => map.add_child(b, node),
+            Storage::Empty(_) | Storage::Leaf(_, _) => unreachable!(),
+            Storage::Node4(_, map) => map.add_child(b, node),
+            Storage::Node16(_, map) => map.add_child(b, node),
+            Storage::Node48(_, map) => map.add_child(b, node),
+            Storage::Node256(_, map) => map.add_child(b, node),
         }
     }
 
@@ -113,18 +118,19 @@ impl<V, N> Storage<V, N> {
         ensures entries { child_entries self.new ≡ without_byte b (child_entries self.old) }
         ensures capacity { storage_capacity self.new ≡ storage_capacity self.old }
         ensures value_kept { stored_value self.new ≡ stored_value self.old }
+        ensures prefix_kept { stored_prefix self.new ≡ stored_prefix self.old }
     {
         match self {
-            Storage::Empty | Storage::Leaf(_) => None,
-            Storage::Node4(map) => map.delete_child(b),
-            Storage::Node16(map) => map.delete_child(b),
-            Storage::Node48(map) => map.delete_child(b),
-            Storage::Node256(map) => map.delete_child(b),
+            Storage::Empty(_) | Storage::Leaf(_, _) => None,
+            Storage::Node4(_, map) => map.delete_child(b),
+            Storage::Node16(_, map) => map.delete_child(b),
+            Storage::Node48(_, map) => map.delete_child(b),
+            Storage::Node256(_, map) => map.delete_child(b),
         }
     }
 }
 
-impl<V, N> Storage<V, N> {
+impl<P, V, N> Storage<P, V, N> {
     ghost use Rattle.std.specs.Prelude.{◌≡◌};
     ghost use Rattle.std.specs.Option.{option_copied_mut};
     ghost use Rattle.std.specs.Borrow.{sem};
@@ -136,15 +142,15 @@ impl<V, N> Storage<V, N> {
     // Inline, so that the caller branches on the kind itself: the byte and the child are then read in parallel.
     #[inline(always)]
     pub(crate) fn seek_child_mut(&mut self, b: u8) -> Option<&mut N>
-        ensures* writes_back { sem 𝓛 (lends_child V.row N.row self.entry b result) }
+        ensures* writes_back { sem 𝓛 (lends_child P.row V.row N.row self.entry b result) }
         ensures value { option_copied_mut result ≡ child_at b (child_entries self.old) }
     {
         match self {
-            Storage::Empty | Storage::Leaf(_) => None,
-            Storage::Node4(map) => map.seek_child_mut(b),
-            Storage::Node16(map) => map.seek_child_mut(b),
-            Storage::Node48(map) => map.seek_child_mut(b),
-            Storage::Node256(map) => map.seek_child_mut(b),
+            Storage::Empty(_) | Storage::Leaf(_, _) => None,
+            Storage::Node4(_, map) => map.seek_child_mut(b),
+            Storage::Node16(_, map) => map.seek_child_mut(b),
+            Storage::Node48(_, map) => map.seek_child_mut(b),
+            Storage::Node256(_, map) => map.seek_child_mut(b),
         }
     }
 }

@@ -234,6 +234,7 @@ impl<K: KeyTrait + Drop, V> AdaptiveRadixTree<K, V> {
             },
         ))
     }
+
     /// Returns an iterator from both ends over the pairs within two bounds, whose bytes may be more than any key has,
     /// as [`range_both_ends`](Self::range_both_ends).
     ///

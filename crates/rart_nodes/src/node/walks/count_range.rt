@@ -1,7 +1,7 @@
 //! The number of pairs between two bounds, found node by node.
 
-// At a node on the path to a bound, the count continues with what is left of the bound after the node's prefix, or
-// without a bound if all keys of the node are within it. So no byte of the path is kept, and nothing is allocated.
+// At a node on the path to a bound, the count continues with the bound's bytes after the node's prefix, or without a
+// bound if all keys of the node are within it. So no byte of the path is kept, and nothing is allocated.
 
 ghost use Rattle.std.specs.Cmp.Lexicographic.{slice_cmp};
 ghost use Rattle.std.specs.Ordering.{nat_cmp};
@@ -47,7 +47,7 @@ fn is_bounded(bound: Bound<&[u8]>) -> bool
 }
 
 /// Returns whether one of two bounds isn't `Unbounded`.
-fn is_range(start: Bound<&[u8]>, end: Bound<&[u8]>) -> bool
+fn has_bounds(start: Bound<&[u8]>, end: Bound<&[u8]>) -> bool
     ensures { result ≡ is_bounded (lent_bound start.entry) || is_bounded (lent_bound end.entry) }
 {
     is_bounded(start) || is_bounded(end)
@@ -77,7 +77,7 @@ fn bound_of(bytes: &[u8], included: bool) -> Bound<&[u8]>
     }
 }
 
-/// Returns what is left of the bound of `bytes` after the prefix of a node, or `None` if no key there is within it.
+/// Returns the bound of `bytes` for the keys of a node, from its prefix on, or `None` if none of them is within it.
 fn rest_after<'k, P: Partial>(
     side: End,
     prefix: &P,
@@ -97,7 +97,7 @@ fn rest_after<'k, P: Partial>(
     None
 }
 
-/// Returns what is left of `bound` after the prefix of a node, or `None` if no key there is within it.
+/// Returns `bound` for the keys of a node, from its prefix on, or `None` if none of them is within it.
 fn after_prefix<'k, P: Partial>(
     side: End,
     prefix: &P,
@@ -123,7 +123,8 @@ fn compare_first(byte: u8, bytes: &[u8]) -> Ordering
     }
 }
 
-/// Returns `bound` for keys that begin with its first byte, which are `Equal`, and what is left of it for others.
+/// Returns `bound` if its first byte begins the keys, which then are `Equal`. For other keys, returns `Unbounded` if they
+/// are within it, and `None` if not.
 fn bound_for<'k>(side: End, bound: Bound<&'k [u8]>, at: Ordering) -> Option<Bound<&'k [u8]>>
     ensures { option_map lent_bound result ≡ bound_by side (lent_bound bound.entry) at }
 {
@@ -136,7 +137,7 @@ fn bound_for<'k>(side: End, bound: Bound<&'k [u8]>, at: Ordering) -> Option<Boun
     None
 }
 
-/// Returns what is left of `bound` for the keys of the child at a byte, or `None` if none of them is within it.
+/// Returns `bound` for the keys of the child at a byte, or `None` if none of them is within it.
 fn at_child<'k>(side: End, byte: u8, bound: Bound<&'k [u8]>) -> Option<Bound<&'k [u8]>>
     ensures { option_map lent_bound result ≡ bound_at side byte (lent_bound bound.entry) }
 {
@@ -147,7 +148,7 @@ fn at_child<'k>(side: End, byte: u8, bound: Bound<&'k [u8]>) -> Option<Bound<&'k
     }
 }
 
-/// Returns 1 if a visited node has a value and its key is within both bounds, which are what its prefix left of them.
+/// Returns 1 if a visited node has a value and its key is within both bounds, which begin after its prefix.
 fn count_own<P: Partial, V, C>(
     at: Entered<'_, P, V, C>,
     start: Bound<&[u8]>,
@@ -179,7 +180,7 @@ fn count_within<P: Partial, V, C: Count>(
         + 2 * length (between (lent_bound start.entry) (lent_bound end.entry)
         (pairs_of at.entry.node.now)) }
 {
-    if !is_range(start, end) {
+    if !has_bounds(start, end) {
         return count_below(at, counter);
     }
     let Some(low) = after_prefix(End::First, at.prefix(), start) else {
@@ -209,8 +210,8 @@ impl<'a, K: KeyTrait, V, C: Count> Seen<'a, K, V, C> {
     ///
     /// # Visits
     ///
-    /// At most `start.len() + 1` nodes on the way to the start, `end.len() + 1` on the way to the end, and two for each
-    /// pair.
+    /// At most `start.len() + 1` nodes on the path to the start, `end.len() + 1` on the path to the end, and two for
+    /// each pair that is counted.
     pub fn count_range_bytes_counted(
         self,
         start: Bound<&[u8]>,
@@ -241,8 +242,8 @@ impl<'a, K: KeyTrait + Drop, V, C: Count> Seen<'a, K, V, C> {
     ///
     /// # Visits
     ///
-    /// At most `start.len() + 1` nodes on the way to the start, `end.len() + 1` on the way to the end, and two for each
-    /// pair.
+    /// At most `start.len() + 1` nodes on the path to the start, `end.len() + 1` on the path to the end, and two for
+    /// each pair that is counted.
     pub fn count_range_counted(self, start: Bound<K>, end: Bound<K>, counter: &mut C) -> usize
         requires { length (seen_pairs self) ≤ usize.MAX }
         ensures value { result ≡ length

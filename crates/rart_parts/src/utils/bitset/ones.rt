@@ -45,11 +45,14 @@ impl<W: BitsetWord, const S: usize> BitsetOnesIter<W, S> {
     pub fn pass(&mut self, position: usize)
         ensures { self.new ≡ positions_above position self.old }
     {
-        while let Some(first) = self.rest.first_set() {
-            if first > position {
+        for i in 0..S {
+            let start = i * W::WIDTH;
+            if start > position {
                 return;
             }
-            self.rest.unset(first);
+            let over = position - start;
+            let from = if over < W::WIDTH { over + 1 } else { W::WIDTH };
+            self.rest.words[i] = self.rest.words[i].without_low(from);
         }
     }
 }

@@ -1,5 +1,5 @@
 //! Words of bits: the unsigned integers of 8 to 64 bits, which contracts read as numbers.
-ghost use Rattle.std.specs.Prelude.{◌≡◌, ℕ, ◌<◌, ◌≤◌, ◌^◌, ◌||◌, ◌&&◌, not, ◌==◌, refl, length};
+ghost use Rattle.std.specs.Prelude.{◌≡◌, ℕ, ◌<◌, ◌≤◌, ◌^◌, ◌||◌, ◌&&◌, not, ◌==◌, nat_le, refl, length};
 ghost use Rattle.std.proofs.Common.{arith};
 ghost use Rattle.rart_parts.specs.Bits.{has_bit, IsFirst, IsLast, members};
 
@@ -51,6 +51,15 @@ pub trait BitsetWord: Copy {
             → has_bit (number result) k ≡ (not (k == at) && has_bit (number self) k) }
     {
         Self::from_u64(self.to_u64() & !(1 << at))
+    }
+
+    /// Returns the word without the bits below `from`.
+    fn without_low(self, from: usize) -> Self
+        requires { from ≤ WIDTH }
+        ensures { (k : ℕ) → k < WIDTH
+            → has_bit (number result) k ≡ (nat_le from k && has_bit (number self) k) }
+    {
+        Self::from_u64(high_bits(self.to_u64(), from))
     }
 
     /// Returns the position of the lowest set bit.
@@ -113,6 +122,19 @@ pub trait BitsetWord: Copy {
     ghost least_shift: { 3 ≤ SHIFT };
 
     ghost greatest_shift: { SHIFT ≤ 6 };
+}
+
+/// Returns the bits from `from` on.
+fn high_bits(bits: u64, from: usize) -> u64
+    requires { from ≤ 64 }
+    ensures at_most { result ≤ bits }
+    ensures kept { (k : ℕ) → k < 64 → has_bit result k ≡ (nat_le from k && has_bit bits k) }
+{
+    if from < 64 {
+        bits & !((1 << from) - 1)
+    } else {
+        0
+    }
 }
 
 /// Returns the bits below `above`.

@@ -91,14 +91,29 @@ fn first_part<'a>(keys: &[&'a [u8]], depth: usize, end: usize) -> &'a [u8]
     &keys[0][depth..end]
 }
 
+/// A node without its prefix.
+// The recursion holds one at each level, and a prefix may be longer than all the rest.
+type Bare<P, V> = Storage<(), V, DefaultNode<P, V>>;
+
+/// Returns the node with this prefix over the value and the children of a storage.
+#[inline(always)]
+fn node_with_prefix<P: Partial, V>(prefix: &[u8], storage: Bare<P, V>) -> DefaultNode<P, V>
+    requires within { IsWithin P.MAXIMUM_SIZE (length prefix.now) }
+    ensures { result ≡ built prefix.now storage }
+{
+    DefaultNode {
+        storage: storage.with_prefix(P::from_slice(prefix)),
+    }
+}
+
 /// Adds a node with these parts at byte `b`, which has no child. It does not allocate.
 // Not inline: the recursion that calls it holds no node on the stack.
 #[inline(never)]
 fn add_node<P: Partial, V>(
-    storage: &mut Storage<V, DefaultNode<P, V>>,
+    storage: &mut Bare<P, V>,
     b: u8,
     prefix: &[u8],
-    storage_below: Storage<V, DefaultNode<P, V>>,
+    storage_below: Bare<P, V>,
 )
     requires within { IsWithin P.MAXIMUM_SIZE (length prefix.now) }
     requires absent { child_at b (child_entries storage.old) ≡ None }
@@ -108,14 +123,18 @@ fn add_node<P: Partial, V>(
     ensures capacity { storage_capacity storage.new ≡ storage_capacity storage.old }
     ensures value_kept { stored_value storage.new ≡ stored_value storage.old }
 {
-    let node = DefaultNode {
-        prefix: P::from_slice(prefix),
-        storage: storage_below,
-    };
-    storage.add_within(b, node);
+    storage.add_within(b, node_with_prefix(prefix, storage_below));
 }
 
-impl<V, N> Storage<V, N> {
+/// Drops the value and all nodes of a storage, the lowest nodes first.
+// Not inline: the recursion that calls it holds no prefix on the stack.
+#[inline(never)]
+fn drop_bare<P: Partial, V: Drop>(storage: Bare<P, V>) {
+    let mut storage = storage.with_prefix(P::from_slice(&[]));
+    drop_children(&mut storage);
+}
+
+impl<V, N> Storage<(), V, N> {
     /// Returns empty storage of the kind for `count` children.
     fn for_children(alloc: Global, count: usize) -> Result<Self, TreeError>
         ensures entries { IfOk result (λ s. child_entries s ≡ []) }
@@ -124,15 +143,15 @@ impl<V, N> Storage<V, N> {
         ensures memory { IfErr result IsMemory }
     {
         if count == 0 {
-            Ok(Storage::Empty)
+            Ok(Storage::Empty(()))
         } else if count <= 4 {
-            Storage::new_4(alloc)
+            Storage::new_4(alloc, ())
         } else if count <= 16 {
-            Storage::new_16(alloc)
+            Storage::new_16(alloc, ())
         } else if count <= 48 {
-            Storage::new_48(alloc)
+            Storage::new_48(alloc, ())
         } else {
-            Storage::new_256(alloc)
+            Storage::new_256(alloc, ())
         }
     }
 }
@@ -163,14 +182,11 @@ impl<P: Partial, V: Drop> DefaultNode<P, V> {
         ensures memory { IfErr result IsMemory }
     {
         let (storage, end) = DefaultNode::build_below(alloc, keys, 0, 0, take_value)?;
-        Ok(DefaultNode {
-            prefix: P::from_slice(first_part(keys, 0, end)),
-            storage,
-        })
+        Ok(node_with_prefix(first_part(keys, 0, end), storage))
     }
 
-    /// Returns the storage of the node of keys that agree up to `depth`, and the depth at which its
-    /// prefix ends. The first key has index `from` in the whole list.
+    /// Returns the node of keys that agree up to `depth` without its prefix, and the depth at which its prefix ends. The
+    /// first key has index `from` in the whole list.
     // A node made here would take space in the frame of each level.
     fn build_below<F: FnMut(usize) -> V>(
         alloc: Global,
@@ -178,7 +194,7 @@ impl<P: Partial, V: Drop> DefaultNode<P, V> {
         depth: usize,
         from: usize,
         take_value: &mut F,
-    ) -> Result<(Storage<V, Self>, usize), TreeError>
+    ) -> Result<(Bare<P, V>, usize), TreeError>
         requires stretch { IsStretch P.MAXIMUM_SIZE depth keys.now }
         requires fits { from + length keys.now < 2 ^ 64 }
         requires callable { CanTake F.pre F.step from (length keys.now) take_value.old }
@@ -201,7 +217,7 @@ impl<P: Partial, V: Drop> DefaultNode<P, V> {
         let mut rest = &keys[own..];
         let mut storage = Storage::for_children(alloc, count_branches(rest, below))?;
         if own == 1 {
-            storage.fill_value(take_value(from));
+            storage = storage.with_value(take_value(from));
         }
         let mut at = from + own;
         while !rest.is_empty() {
@@ -213,7 +229,7 @@ impl<P: Partial, V: Drop> DefaultNode<P, V> {
                 let Ok((storage_below, end_below)) = DefaultNode::build_below(
                     alloc, group, below, at, take_value,
                 ) else {
-                    drop_children(&mut storage);
+                    drop_bare(storage);
                     return Err(TreeError::Memory);
                 };
                 let prefix = first_part(group, below, end_below);

@@ -20,7 +20,7 @@ impl<P: Partial, V: Drop> DefaultNode<P, V> {
 }
 
 /// Drops the value and all nodes of a storage and frees it, the lowest nodes first.
-pub(super) fn drop_children<P: Partial, V: Drop>(storage: &mut Storage<V, DefaultNode<P, V>>)
+pub(super) fn drop_children<P: Partial, V: Drop>(storage: &mut Storage<P, V, DefaultNode<P, V>>)
     ensures entries { child_entries storage.new ≡ [] }
     ensures capacity { storage_capacity storage.new ≡ 0 }
     ensures value { stored_value storage.new ≡ None }
@@ -39,10 +39,10 @@ pub(super) fn drop_children<P: Partial, V: Drop>(storage: &mut Storage<V, Defaul
 // Drops a value and nodes without children, and frees their storage.
 // Not inline: the recursion that calls it holds no node on the stack.
 #[inline(never)]
-fn drop_leaves<P: Partial, V: Drop>(storage: &mut Storage<V, DefaultNode<P, V>>)
+fn drop_leaves<P: Partial, V: Drop>(storage: &mut Storage<P, V, DefaultNode<P, V>>)
     ensures entries { child_entries storage.new ≡ [] }
     ensures capacity { storage_capacity storage.new ≡ 0 }
     ensures value { stored_value storage.new ≡ None }
 {
-    *storage = Storage::Empty;
+    *storage = Storage::Empty(P::from_slice(&[]));
 }

@@ -10,7 +10,6 @@ ghost use Rattle.rart_trie.specs.tries.Trie.{Trie, IsCanonical, trie_lookup, tri
 ghost use Rattle.rart_trie.specs.tries.TrieCode.{node_count};
 
 use crate::node::DefaultNode;
-use crate::node::rest::strip_prefix;
 use rart_keys::Partial;
 
 /// Lends the value at a key. Only `lend_by` takes a step of the descent, so a single call recurs.
@@ -56,7 +55,7 @@ where
     ensures* writes_back { sem 𝓛 (lends_below P.row V.row P.Partial node.entry key.now result) }
     ensures value { option_copied_mut result ≡ trie_lookup key.now node.old }
 {
-    let Some(rest) = strip_prefix(&node.prefix, key) else {
+    let Some(rest) = node.storage.strip_prefix(key) else {
         return None;
     };
     let Some(&byte) = rest.first() else {

@@ -6,13 +6,12 @@ ghost use Rattle.rart_keys.specs.SortedMap.{count_of, lookup, put, longest_key};
 ghost use Rattle.rart_parts.specs.Entries.{child_at, with_entry};
 ghost use Rattle.rart_trie.specs.edits.InsertAllocations.{MayAllocateFor, trie_put_allocates};
 ghost use Rattle.rart_trie.specs.edits.InsertStops.{FailsPut, FailsInsertInto, FailsInsert};
-ghost use Rattle.rart_trie.specs.storages.Stored.{child_entries, storage_capacity, stored_value};
+ghost use Rattle.rart_trie.specs.storages.Stored.{child_entries, storage_capacity, stored_prefix, stored_value};
 ghost use Rattle.rart_trie.specs.tries.Trie.{IsCanonical, leaf, pairs_of, prefix_of, with_records};
 ghost use Rattle.rart_trie.specs.tries.Trie.{trie_lookup, trie_put};
 
 use crate::node::DefaultNode;
 use crate::node::fill::fill;
-use crate::node::rest::strip_prefix;
 use crate::node::storage::Storage;
 use crate::refused::{NotInserted, Refused};
 use rart_keys::Partial;
@@ -43,23 +42,20 @@ impl<P: Partial, V> DefaultNode<P, V> {
         ensures unchanged { OnErr result (self.new ≡ self.old) }
         ensures returned { IfErr result (λ r. (r.error ≡ TreeError.Memory) × (r.value ≡ value)) }
     {
-        let Ok(next) = Storage::new_4(alloc) else {
+        let prefix = self.storage.prefix();
+        let shared = prefix.prefix_length_slice(key);
+        let head = prefix.partial_before(shared);
+        let low = prefix.partial_after(shared);
+        let low_byte = low.at(0);
+        let Ok(next) = Storage::new_4(alloc, head) else {
             return Err(Refused {
                 error: TreeError::Memory,
                 value,
             });
         };
-        let shared = self.prefix.prefix_length_slice(key);
-        let head = self.prefix.partial_before(shared);
-        let low = self.prefix.partial_after(shared);
-        let low_byte = low.at(0);
-        self.prefix = head;
-        let storage = mem::replace(&mut self.storage, next);
-        let lower = DefaultNode {
-            prefix: low,
-            storage,
-        };
-        self.storage.add_within(low_byte, lower);
+        let mut storage = mem::replace(&mut self.storage, next);
+        storage.set_prefix(low);
+        self.storage.add_within(low_byte, DefaultNode { storage });
         if key.len() == shared {
             self.storage.fill_value(value);
             return Ok(());
@@ -90,7 +86,7 @@ impl<P: Partial, V> DefaultNode<P, V> {
         ensures returned { OnErr result (back.new ≡ Some value) }
         ensures refused { IfErr result (FailsPut only_new key.now self.old) }
     {
-        let Some(rest) = strip_prefix(&self.prefix, key) else {
+        let Some(rest) = self.storage.strip_prefix(key) else {
             return match self.split(alloc, key, value) {
                 Ok(()) => Ok(()),
                 Err(Refused { error: _, value }) => {
@@ -214,8 +210,8 @@ impl<P: Partial, V> DefaultNode<P, V> {
 /// Adds a leaf at byte `b`, which has no child. It does not allocate.
 // Not inline: a descent that calls it holds no node on the stack.
 #[inline(never)]
-pub(super) fn add_leaf<P: Partial, V>(
-    storage: &mut Storage<V, DefaultNode<P, V>>,
+pub(super) fn add_leaf<Q, P: Partial, V>(
+    storage: &mut Storage<Q, V, DefaultNode<P, V>>,
     b: u8,
     rest: &[u8],
     value: V,
@@ -227,6 +223,7 @@ pub(super) fn add_leaf<P: Partial, V>(
         ≡ with_entry b (leaf rest.now value) (child_entries storage.old) }
     ensures capacity { storage_capacity storage.new ≡ storage_capacity storage.old }
     ensures value_kept { stored_value storage.new ≡ stored_value storage.old }
+    ensures prefix_kept { stored_prefix storage.new ≡ stored_prefix storage.old }
 {
     storage.add_within(b, DefaultNode::new_leaf(P::from_slice(rest), value));
 }

@@ -8,6 +8,7 @@ ghost use Rattle.rart_keys.specs.KeyBytes.{IsWithin};
 ghost use Rattle.rart_keys.specs.SortedMap.{count_of, keys_of, longest_key, lookup};
 ghost use Rattle.rart_trie.specs.edits.Pops.{PopAllocates, Pops, PopsEnd, PopsFirst, PopsLast};
 ghost use Rattle.rart_trie.specs.edits.RemoveAllocations.{remove_allocates};
+ghost use Rattle.rart_trie.specs.storages.Stored.{stored_prefix};
 ghost use Rattle.rart_trie.specs.tries.Ends.{end_of};
 ghost use Rattle.rart_trie.specs.tries.Tree.{IsCanonicalTree, tree_pairs};
 ghost use Rattle.rart_trie.specs.tries.Trie.{IsCanonical, children_in, no_children, pairs_of};
@@ -15,6 +16,7 @@ ghost use Rattle.rart_trie.specs.tries.Trie.{IsCanonical, children_in, no_childr
 use crate::node::DefaultNode;
 use crate::node::ends::{End, copy_of};
 use crate::node::fill::fill;
+use crate::node::storage::Storage;
 use rart_keys::Partial;
 use rart_parts::TreeError;
 use std::alloc::Global;
@@ -40,7 +42,7 @@ impl<P: Partial, V> DefaultNode<P, V> {
         ensures memory { IfErr result IsMemory }
         ensures allocates { OnErr result (PopAllocates end self.old) }
     {
-        extend(path, &self.prefix);
+        extend(path, &self.storage);
         let Some((byte, _)) = self.end_child(end) else {
             fill(removed, self.storage.take_value());
             self.merge_with_only_child();
@@ -51,7 +53,7 @@ impl<P: Partial, V> DefaultNode<P, V> {
                 if child.storage.num_children() > 0 {
                     return child.pop_below(alloc, end, path, removed);
                 }
-                extend(path, &child.prefix);
+                extend(path, &child.storage);
             }
             None => unreachable!(),
         }
@@ -114,7 +116,7 @@ impl<P: Partial, V> DefaultNode<P, V> {
         }
         match root.take() {
             Some(leaf) => {
-                let path = copy_of(&leaf.prefix);
+                let path = copy_of(leaf.storage.prefix());
                 match leaf.into_value() {
                     Some(value) => Ok(Some((path, value))),
                     None => unreachable!(),
@@ -175,12 +177,13 @@ impl<P: Partial, V> DefaultNode<P, V> {
     }
 }
 
-// Extends a path by a prefix.
+// Extends a path by the prefix of a storage.
 // Not inline: a descent that calls it holds no path on the stack.
 #[inline(never)]
-pub(super) fn extend<P: Partial>(path: &mut P, prefix: &P)
-    requires { IsWithin P.MAXIMUM_SIZE (length (P.bytes path.old) + length (P.bytes prefix.now)) }
-    ensures { P.bytes path.new ≡ P.bytes path.old ++ P.bytes prefix.now }
+pub(super) fn extend<P: Partial, V>(path: &mut P, storage: &Storage<P, V, DefaultNode<P, V>>)
+    requires { IsWithin P.MAXIMUM_SIZE
+        (length (P.bytes path.old) + length (P.bytes (stored_prefix storage.now))) }
+    ensures { P.bytes path.new ≡ P.bytes path.old ++ P.bytes (stored_prefix storage.now) }
 {
-    *path = path.partial_extended_with(prefix);
+    *path = path.partial_extended_with(storage.prefix());
 }

@@ -13,7 +13,6 @@ ghost use Rattle.rart_trie.specs.tries.Trie.{prefix_of, trie_remove, value_of, c
 
 use crate::node::DefaultNode;
 use crate::node::fill::fill;
-use crate::node::rest::strip_prefix;
 use rart_keys::Partial;
 use rart_parts::TreeError;
 use std::alloc::Global;
@@ -33,8 +32,12 @@ impl<P: Partial, V> DefaultNode<P, V> {
             return;
         }
         let (_byte, child) = self.storage.take_only_child();
-        let DefaultNode { prefix, storage } = child;
-        self.prefix = self.prefix.partial_extended_with(&prefix);
+        let DefaultNode { mut storage } = child;
+        let joined = self
+            .storage
+            .prefix()
+            .partial_extended_with(storage.prefix());
+        storage.set_prefix(joined);
         self.storage.replace_empty(storage);
     }
 
@@ -66,7 +69,7 @@ impl<P: Partial, V> DefaultNode<P, V> {
         if self.storage.num_children() > 0 {
             return false;
         }
-        match strip_prefix(&self.prefix, key) {
+        match self.storage.strip_prefix(key) {
             Some(rest) => rest.is_empty(),
             None => false,
         }
@@ -77,10 +80,7 @@ impl<P: Partial, V> DefaultNode<P, V> {
         requires { edges_of (children_in self) ≡ [] }
         ensures { result ≡ value_of self }
     {
-        let DefaultNode {
-            prefix: _prefix,
-            storage,
-        } = self;
+        let DefaultNode { storage } = self;
         storage.into_value()
     }
 
@@ -133,7 +133,7 @@ impl<P: Partial, V> DefaultNode<P, V> {
         ensures allocates { OnErr result ((trie_remove_allocates None key.now self.old ≡ true)
             × (trie_lookup key.now self.old ≢ None)) }
     {
-        let Some(rest) = strip_prefix(&self.prefix, key) else {
+        let Some(rest) = self.storage.strip_prefix(key) else {
             return Ok(());
         };
         let Some(&byte) = rest.first() else {

@@ -34,7 +34,7 @@ pub(crate) enum Retention {
 
 /// Calls `f` with the key and the value of a node, if it has one, and returns whether the value is to be kept.
 fn call_for_own<P: Partial, V, F: FnMut(&[u8], &mut V) -> bool>(
-    storage: &mut Storage<V, DefaultNode<P, V>>,
+    storage: &mut Storage<P, V, DefaultNode<P, V>>,
     key: &[u8],
     f: &mut F,
 ) -> bool
@@ -64,7 +64,7 @@ fn cut<P: Partial>(path: &mut P, count: usize)
 // Not inline: a descent that calls it holds no node on the stack.
 #[inline(never)]
 fn apply_to_child<P: Partial, V: Drop>(
-    storage: &mut Storage<V, DefaultNode<P, V>>,
+    storage: &mut Storage<P, V, DefaultNode<P, V>>,
     alloc: Global,
     byte: u8,
     has_value: bool,
@@ -89,7 +89,7 @@ fn apply_to_child<P: Partial, V: Drop>(
 
 /// Returns the byte of the next child after `byte`, or `None` if the walk is over.
 fn following_byte<P: Partial, V>(
-    storage: &Storage<V, DefaultNode<P, V>>,
+    storage: &Storage<P, V, DefaultNode<P, V>>,
     byte: u8,
     walk: Retention,
 ) -> Option<u8>
@@ -141,7 +141,7 @@ impl<P: Partial, V: Drop> DefaultNode<P, V> {
             f.new }
     {
         let count = path.len();
-        extend(path, &self.prefix);
+        extend(path, &self.storage);
         let keeps = call_for_own(&mut self.storage, path.to_slice(), f);
         let has_value = self.storage.has_value();
         let mut walk = Retention::Done;

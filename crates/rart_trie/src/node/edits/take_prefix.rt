@@ -19,7 +19,6 @@ use crate::count::Count;
 use crate::node::DefaultNode;
 use crate::node::edits::pop::extend;
 use crate::node::fill::fill;
-use crate::node::rest::strip_prefix;
 use rart_keys::Partial;
 use rart_parts::TreeError;
 use std::alloc::Global;
@@ -33,7 +32,7 @@ impl<P: Partial, V> DefaultNode<P, V> {
         ensures counted { C.number counter.new ≡ C.number counter.old + 1 }
     {
         counter.add_one();
-        self.prefix.starts_with(prefix)
+        self.storage.prefix().starts_with(prefix)
     }
 
     /// Removes the child at `byte` and stores it in `taken`, which is empty, with `path` in front of its prefix.
@@ -61,7 +60,8 @@ impl<P: Partial, V> DefaultNode<P, V> {
     {
         match self.take_child(alloc, byte)? {
             Some(mut child) => {
-                child.prefix = path.partial_extended_with(&child.prefix);
+                let prefix = path.partial_extended_with(child.storage.prefix());
+                child.storage.set_prefix(prefix);
                 fill(taken, Some(child));
                 Ok(())
             }
@@ -94,13 +94,13 @@ impl<P: Partial, V> DefaultNode<P, V> {
         ensures bound { C.number counter.new
             ≤ C.number counter.old + (length prefix.now - length (prefix_of self.old)) }
     {
-        let Some(rest) = strip_prefix(&self.prefix, prefix) else {
+        let Some(rest) = self.storage.strip_prefix(prefix) else {
             return Ok(());
         };
         let Some(&byte) = rest.first() else {
             unreachable!();
         };
-        extend(path, &self.prefix);
+        extend(path, &self.storage);
         match self.storage.seek_child_mut(byte) {
             Some(child) => {
                 if !child.is_below(rest, counter) {

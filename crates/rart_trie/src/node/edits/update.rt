@@ -21,7 +21,6 @@ ghost use Rattle.rart_trie.specs.edits.Updates.{UpdatesMap};
 use crate::node::DefaultNode;
 use crate::node::edits::insert::add_leaf;
 use crate::node::fill::fill;
-use crate::node::rest::strip_prefix;
 use crate::refused::Refused;
 use crate::slot::{Outcome, Slot, SlotUpdate, UpdateError, Visit, show, show_vacant};
 use rart_keys::Partial;
@@ -209,7 +208,7 @@ impl<P: Partial, V> DefaultNode<P, V> {
         ensures { AnswersReturning F.FnOnce f (trie_lookup key.now self.old) result.1
             (λ r w. EndsTree full key.now r w (Some self.old) result.0 (Some self.new)) }
     {
-        let Some(rest) = strip_prefix(&self.prefix, key) else {
+        let Some(rest) = self.storage.strip_prefix(key) else {
             let (answer, extra) = show_vacant(f);
             return (self.apply_split(alloc, full, key, answer), extra);
         };

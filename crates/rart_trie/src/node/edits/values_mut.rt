@@ -10,7 +10,6 @@ ghost use Rattle.rart_trie.specs.tries.Trie.{IsCanonical, pairs_of, prefix_of};
 ghost use Rattle.rart_trie.specs.walks.BelowPrefix.{values_below};
 
 use crate::node::DefaultNode;
-use crate::node::rest::strip_prefix;
 use rart_keys::Partial;
 
 impl<P: Partial, V> DefaultNode<P, V> {
@@ -45,8 +44,8 @@ impl<P: Partial, V> DefaultNode<P, V> {
         ensures changes { ChangesBelow F.FnMut prefix.now f.old (pairs_of self.old)
             (pairs_of self.new) f.new }
     {
-        let Some(rest) = strip_prefix(&self.prefix, prefix) else {
-            if self.prefix.starts_with(prefix) {
+        let Some(rest) = self.storage.strip_prefix(prefix) else {
+            if self.storage.prefix().starts_with(prefix) {
                 self.change_each(f);
             }
             return;

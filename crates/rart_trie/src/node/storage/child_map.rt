@@ -22,18 +22,18 @@ pub enum ChildMap<'a, V, N> {
     Node256(&'a DirectMapping<N, Option<V>>),
 }
 
-impl<V, N> Storage<V, N> {
+impl<P, V, N> Storage<P, V, N> {
     /// Returns the map of the children. It does not allocate.
     pub(crate) fn child_map(&self) -> ChildMap<'_, V, N>
         ensures entries { map_entries result ≡ child_entries self.now }
         ensures capacity { map_capacity result ≡ storage_capacity self.now }
     {
         match self {
-            Storage::Empty | Storage::Leaf(_) => ChildMap::Childless,
-            Storage::Node4(map) => ChildMap::Node4(map),
-            Storage::Node16(map) => ChildMap::Node16(map),
-            Storage::Node48(map) => ChildMap::Node48(map),
-            Storage::Node256(map) => ChildMap::Node256(map),
+            Storage::Empty(_) | Storage::Leaf(_, _) => ChildMap::Childless,
+            Storage::Node4(_, map) => ChildMap::Node4(map),
+            Storage::Node16(_, map) => ChildMap::Node16(map),
+            Storage::Node48(_, map) => ChildMap::Node48(map),
+            Storage::Node256(_, map) => ChildMap::Node256(map),
         }
     }
 }

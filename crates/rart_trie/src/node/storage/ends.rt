@@ -5,7 +5,7 @@ ghost use Rattle.rart_trie.specs.storages.Stored.{child_entries};
 
 use crate::node::storage::Storage;
 
-impl<V, N> Storage<V, N> {
+impl<P, V, N> Storage<P, V, N> {
     /// Returns the child at the least byte, with that byte.
     pub(crate) fn first_child(&self) -> Option<(u8, &N)>
         ensures { option_map (λ e. (e.0, e.1.now)) result ≡ slice_get (child_entries self.now) 0 }
@@ -18,11 +18,11 @@ impl<V, N> Storage<V, N> {
         ensures { option_map (λ e. (e.0, e.1.now)) result ≡ last_or None (child_entries self.now) }
     {
         match self {
-            Storage::Empty | Storage::Leaf(_) => None,
-            Storage::Node4(map) => map.last_under(None),
-            Storage::Node16(map) => map.last_under(None),
-            Storage::Node48(map) => map.last_under(None),
-            Storage::Node256(map) => map.last_under(None),
+            Storage::Empty(_) | Storage::Leaf(_, _) => None,
+            Storage::Node4(_, map) => map.last_under(None),
+            Storage::Node16(_, map) => map.last_under(None),
+            Storage::Node48(_, map) => map.last_under(None),
+            Storage::Node256(_, map) => map.last_under(None),
         }
     }
 }

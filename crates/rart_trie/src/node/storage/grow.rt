@@ -3,10 +3,12 @@ ghost use Rattle.std.specs.Prelude.{◌≡◌, ◌<◌, ◌≤◌, [], length, N
 ghost use Rattle.rart_parts.specs.Entries.{sorted_entries, child_at};
 ghost use Rattle.rart_parts.specs.Errors.{IsMemory};
 ghost use Rattle.rart_trie.specs.storages.Capacities.{widened_capacity};
-ghost use Rattle.rart_trie.specs.storages.Stored.{child_entries, storage_capacity, stored_value};
+ghost use Rattle.rart_trie.specs.storages.Stored.{child_entries, storage_capacity, stored_prefix, stored_value};
 
 use crate::node::fill::fill;
 use crate::node::storage::Storage;
+use crate::node::storage::prefix::take_prefix;
+use rart_keys::Partial;
 use rart_maps::mapping::{DirectMapping, IndexedMapping, NodeMapping, SortedKeyedMapping};
 use rart_parts::utils::bitset::Bitset64;
 use rart_parts::{TreeError, laws};
@@ -63,47 +65,53 @@ fn new_direct<V, N>(alloc: Global) -> Result<DirectMapping<N, Option<V>>, TreeEr
     }
 }
 
-impl<V, N> Storage<V, N> {
-    /// Returns empty storage of capacity 4.
-    pub(crate) fn new_4(alloc: Global) -> Result<Self, TreeError>
+impl<P: Drop, V, N> Storage<P, V, N> {
+    /// Returns empty storage of capacity 4 with this prefix.
+    pub(crate) fn new_4(alloc: Global, prefix: P) -> Result<Self, TreeError>
         ensures entries { IfOk result (λ s. child_entries s ≡ []) }
         ensures capacity { IfOk result (λ s. storage_capacity s ≡ 4) }
         ensures value { IfOk result (λ s. stored_value s ≡ None) }
+        ensures prefix { IfOk result (λ s. stored_prefix s ≡ prefix) }
         ensures memory { IfErr result IsMemory }
     {
-        Ok(Storage::Node4(new_sorted(alloc)?))
+        Ok(Storage::Node4(prefix, new_sorted(alloc)?))
     }
 
-    /// Returns empty storage of capacity 16.
-    pub(crate) fn new_16(alloc: Global) -> Result<Self, TreeError>
+    /// Returns empty storage of capacity 16 with this prefix.
+    pub(crate) fn new_16(alloc: Global, prefix: P) -> Result<Self, TreeError>
         ensures entries { IfOk result (λ s. child_entries s ≡ []) }
         ensures capacity { IfOk result (λ s. storage_capacity s ≡ 16) }
         ensures value { IfOk result (λ s. stored_value s ≡ None) }
+        ensures prefix { IfOk result (λ s. stored_prefix s ≡ prefix) }
         ensures memory { IfErr result IsMemory }
     {
-        Ok(Storage::Node16(new_sorted(alloc)?))
+        Ok(Storage::Node16(prefix, new_sorted(alloc)?))
     }
 
-    /// Returns empty storage of capacity 48.
-    pub(crate) fn new_48(alloc: Global) -> Result<Self, TreeError>
+    /// Returns empty storage of capacity 48 with this prefix.
+    pub(crate) fn new_48(alloc: Global, prefix: P) -> Result<Self, TreeError>
         ensures entries { IfOk result (λ s. child_entries s ≡ []) }
         ensures capacity { IfOk result (λ s. storage_capacity s ≡ 48) }
         ensures value { IfOk result (λ s. stored_value s ≡ None) }
+        ensures prefix { IfOk result (λ s. stored_prefix s ≡ prefix) }
         ensures memory { IfErr result IsMemory }
     {
-        Ok(Storage::Node48(new_indexed(alloc)?))
+        Ok(Storage::Node48(prefix, new_indexed(alloc)?))
     }
 
-    /// Returns empty storage of capacity 256.
-    pub(crate) fn new_256(alloc: Global) -> Result<Self, TreeError>
+    /// Returns empty storage of capacity 256 with this prefix.
+    pub(crate) fn new_256(alloc: Global, prefix: P) -> Result<Self, TreeError>
         ensures entries { IfOk result (λ s. child_entries s ≡ []) }
         ensures capacity { IfOk result (λ s. storage_capacity s ≡ 256) }
         ensures value { IfOk result (λ s. stored_value s ≡ None) }
+        ensures prefix { IfOk result (λ s. stored_prefix s ≡ prefix) }
         ensures memory { IfErr result IsMemory }
     {
-        Ok(Storage::Node256(new_direct(alloc)?))
+        Ok(Storage::Node256(prefix, new_direct(alloc)?))
     }
+}
 
+impl<P: Partial, V, N> Storage<P, V, N> {
     /// Returns whether another child fits at byte `b`.
     fn has_free_slot(&self, b: u8) -> bool
         requires { child_at b (child_entries self.now) ≡ None }
@@ -115,11 +123,11 @@ impl<V, N> Storage<V, N> {
     {
         laws::free_byte::<N>();
         match self {
-            Storage::Empty | Storage::Leaf(_) => false,
-            Storage::Node4(map) => map.num_children() < 4,
-            Storage::Node16(map) => map.num_children() < 16,
-            Storage::Node48(map) => map.num_children() < 48,
-            Storage::Node256(map) => map.num_children() < 256,
+            Storage::Empty(_) | Storage::Leaf(_, _) => false,
+            Storage::Node4(_, map) => map.num_children() < 4,
+            Storage::Node16(_, map) => map.num_children() < 16,
+            Storage::Node48(_, map) => map.num_children() < 48,
+            Storage::Node256(_, map) => map.num_children() < 256,
         }
     }
 
@@ -145,6 +153,7 @@ impl<V, N> Storage<V, N> {
         requires absent { child_at b (child_entries self.old) ≡ None }
         ensures entries { child_entries self.new ≡ child_entries self.old }
         ensures value_kept { stored_value self.new ≡ stored_value self.old }
+        ensures prefix_kept { stored_prefix self.new ≡ stored_prefix self.old }
         ensures not_full { OnOk result
             (length (child_entries self.new) < storage_capacity self.new) }
         ensures capacity { OnOk result
@@ -159,30 +168,39 @@ impl<V, N> Storage<V, N> {
             return Ok(());
         }
         match self {
-            Storage::Empty | Storage::Leaf(_) => {
-                let mut next = new_sorted(alloc)?;
-                fill(next.extra_mut(), self.take_value());
-                self.replace_empty(Storage::Node4(next));
+            Storage::Empty(prefix) => {
+                let next = new_sorted(alloc)?;
+                let prefix = take_prefix(prefix);
+                self.replace_empty(Storage::Node4(prefix, next));
             }
-            Storage::Node4(map) => {
+            Storage::Leaf(prefix, _) => {
+                let mut next = new_sorted(alloc)?;
+                let prefix = take_prefix(prefix);
+                fill(next.extra_mut(), self.take_value());
+                self.replace_empty(Storage::Node4(prefix, next));
+            }
+            Storage::Node4(prefix, map) => {
                 let mut next = new_sorted(alloc)?;
                 next.fill_from_resized(map);
                 fill(next.extra_mut(), map.extra_mut().take());
-                self.replace_empty(Storage::Node16(next));
+                let prefix = take_prefix(prefix);
+                self.replace_empty(Storage::Node16(prefix, next));
             }
-            Storage::Node16(map) => {
+            Storage::Node16(prefix, map) => {
                 let mut next = new_indexed(alloc)?;
                 next.fill_from_sorted_keyed(map);
                 fill(next.extra_mut(), map.extra_mut().take());
-                self.replace_empty(Storage::Node48(next));
+                let prefix = take_prefix(prefix);
+                self.replace_empty(Storage::Node48(prefix, next));
             }
-            Storage::Node48(map) => {
+            Storage::Node48(prefix, map) => {
                 let mut next = new_direct(alloc)?;
                 next.fill_from_indexed(map);
                 fill(next.extra_mut(), map.extra_mut().take());
-                self.replace_empty(Storage::Node256(next));
+                let prefix = take_prefix(prefix);
+                self.replace_empty(Storage::Node256(prefix, next));
             }
-            Storage::Node256(_) => unreachable!(),
+            Storage::Node256(_, _) => unreachable!(),
         }
         Ok(())
     }

@@ -6,18 +6,18 @@ ghost use Rattle.rart_trie.specs.storages.Stored.{child_entries};
 
 use crate::node::storage::Storage;
 
-impl<V, N> Storage<V, N> {
+impl<P, V, N> Storage<P, V, N> {
     /// Returns the child at the greatest byte under `byte`, with its byte.
     pub(crate) fn last_child_under(&self, byte: u8) -> Option<(u8, &N)>
         ensures { option_map (λ e. (e.0, e.1.now)) result
             ≡ last_or None (entries_under byte (child_entries self.now)) }
     {
         match self {
-            Storage::Empty | Storage::Leaf(_) => None,
-            Storage::Node4(map) => map.last_under(Some(byte)),
-            Storage::Node16(map) => map.last_under(Some(byte)),
-            Storage::Node48(map) => map.last_under(Some(byte)),
-            Storage::Node256(map) => map.last_under(Some(byte)),
+            Storage::Empty(_) | Storage::Leaf(_, _) => None,
+            Storage::Node4(_, map) => map.last_under(Some(byte)),
+            Storage::Node16(_, map) => map.last_under(Some(byte)),
+            Storage::Node48(_, map) => map.last_under(Some(byte)),
+            Storage::Node256(_, map) => map.last_under(Some(byte)),
         }
     }
 }

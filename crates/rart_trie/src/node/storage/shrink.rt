@@ -5,27 +5,29 @@ ghost use Rattle.rart_parts.specs.Entries.{child_at, without_byte};
 ghost use Rattle.rart_parts.specs.Errors.{IsMemory};
 ghost use Rattle.rart_trie.specs.storages.Capacities.{previous_capacity};
 ghost use Rattle.rart_trie.specs.storages.Stored.{ShrinksStored, child_entries, capacity_without, storage_capacity};
-ghost use Rattle.rart_trie.specs.storages.Stored.{stored_value};
+ghost use Rattle.rart_trie.specs.storages.Stored.{stored_prefix, stored_value};
 
 use crate::node::fill::fill;
 use crate::node::storage::Storage;
 use crate::node::storage::grow::{new_indexed, new_sorted};
+use crate::node::storage::prefix::take_prefix;
+use rart_keys::Partial;
 use rart_maps::mapping::NodeMapping;
 use rart_parts::TreeError;
 use std::alloc::Global;
 
-impl<V, N> Storage<V, N> {
+impl<P: Partial, V, N> Storage<P, V, N> {
     /// Returns the capacity of the next smaller kind plus one, the number of children at which a removal changes the
     /// kind.
     fn last_count(&self) -> usize
         ensures { result ≡ previous_capacity (storage_capacity self.now) + 1 }
     {
         match self {
-            Storage::Empty | Storage::Leaf(_) => 1,
-            Storage::Node4(_) => 1,
-            Storage::Node16(_) => 5,
-            Storage::Node48(_) => 17,
-            Storage::Node256(_) => 49,
+            Storage::Empty(_) | Storage::Leaf(_, _) => 1,
+            Storage::Node4(_, _) => 1,
+            Storage::Node16(_, _) => 5,
+            Storage::Node48(_, _) => 17,
+            Storage::Node256(_, _) => 49,
         }
     }
 
@@ -53,6 +55,7 @@ impl<V, N> Storage<V, N> {
             (storage_capacity self.new
             ≡ capacity_without b self.old (length (child_entries self.new))) }
         ensures value_kept { OnOk result (stored_value self.new ≡ stored_value self.old) }
+        ensures prefix_kept { OnOk result (stored_prefix self.new ≡ stored_prefix self.old) }
         ensures unchanged { OnErr result (self.new ≡ self.old) }
         ensures allocates { OnErr result (ShrinksStored b self.old) }
         ensures memory { IfErr result IsMemory }
@@ -61,35 +64,39 @@ impl<V, N> Storage<V, N> {
             return Ok(self.delete_within(b));
         }
         match self {
-            Storage::Empty | Storage::Leaf(_) => Ok(None),
-            Storage::Node4(map) => {
+            Storage::Empty(_) | Storage::Leaf(_, _) => Ok(None),
+            Storage::Node4(prefix, map) => {
                 let child = map.delete_child(b);
                 let value = map.extra_mut().take();
-                self.replace_empty(Storage::childless(value));
+                let prefix = take_prefix(prefix);
+                self.replace_empty(Storage::childless(prefix, value));
                 Ok(child)
             }
-            Storage::Node16(map) => {
+            Storage::Node16(prefix, map) => {
                 let mut next = new_sorted(alloc)?;
                 let child = map.delete_child(b);
                 next.fill_from_resized(map);
                 fill(next.extra_mut(), map.extra_mut().take());
-                self.replace_empty(Storage::Node4(next));
+                let prefix = take_prefix(prefix);
+                self.replace_empty(Storage::Node4(prefix, next));
                 Ok(child)
             }
-            Storage::Node48(map) => {
+            Storage::Node48(prefix, map) => {
                 let mut next = new_sorted(alloc)?;
                 let child = map.delete_child(b);
                 next.fill_from_indexed(map);
                 fill(next.extra_mut(), map.extra_mut().take());
-                self.replace_empty(Storage::Node16(next));
+                let prefix = take_prefix(prefix);
+                self.replace_empty(Storage::Node16(prefix, next));
                 Ok(child)
             }
-            Storage::Node256(map) => {
+            Storage::Node256(prefix, map) => {
                 let mut next = new_indexed(alloc)?;
                 let child = map.delete_child(b);
                 next.fill_from_direct(map);
                 fill(next.extra_mut(), map.extra_mut().take());
-                self.replace_empty(Storage::Node48(next));
+                let prefix = take_prefix(prefix);
+                self.replace_empty(Storage::Node48(prefix, next));
                 Ok(child)
             }
         }
@@ -103,14 +110,15 @@ impl<V, N> Storage<V, N> {
         ensures entries { child_entries self.new ≡ [] }
         ensures capacity { storage_capacity self.new ≡ 4 }
         ensures value_kept { stored_value self.new ≡ stored_value self.old }
+        ensures prefix_kept { stored_prefix self.new ≡ stored_prefix self.old }
     {
         match self {
-            Storage::Node4(map) => map.take_value_for_leaf(),
-            Storage::Empty
-            | Storage::Leaf(_)
-            | Storage::Node16(_)
-            | Storage::Node48(_)
-            | Storage::Node256(_) => unreachable!(),
+            Storage::Node4(_, map) => map.take_value_for_leaf(),
+            Storage::Empty(_)
+            | Storage::Leaf(_, _)
+            | Storage::Node16(_, _)
+            | Storage::Node48(_, _)
+            | Storage::Node256(_, _) => unreachable!(),
         }
     }
 }

@@ -39,18 +39,18 @@ impl<'a, N> StorageIter<'a, N> {
     }
 }
 
-impl<V, N> Storage<V, N> {
+impl<P, V, N> Storage<P, V, N> {
     /// Returns the children with their bytes, ascending. It does not allocate.
     pub(crate) fn iter(&self) -> StorageIter<'_, N>
         ensures entries { to_come result ≡ child_entries self.now }
         ensures ascending { BytesAscend (child_entries self.now) }
     {
         match self {
-            Storage::Empty | Storage::Leaf(_) => StorageIter::Childless,
-            Storage::Node4(map) => StorageIter::Sorted(map.iter()),
-            Storage::Node16(map) => StorageIter::Sorted(map.iter()),
-            Storage::Node48(map) => StorageIter::Indexed(map.iter()),
-            Storage::Node256(map) => StorageIter::Direct(map.iter()),
+            Storage::Empty(_) | Storage::Leaf(_, _) => StorageIter::Childless,
+            Storage::Node4(_, map) => StorageIter::Sorted(map.iter()),
+            Storage::Node16(_, map) => StorageIter::Sorted(map.iter()),
+            Storage::Node48(_, map) => StorageIter::Indexed(map.iter()),
+            Storage::Node256(_, map) => StorageIter::Direct(map.iter()),
         }
     }
 
@@ -60,11 +60,11 @@ impl<V, N> Storage<V, N> {
         ensures ascending { BytesAscend (entries_above byte (child_entries self.now)) }
     {
         match self {
-            Storage::Empty | Storage::Leaf(_) => StorageIter::Childless,
-            Storage::Node4(map) => StorageIter::Sorted(map.iter_above(byte)),
-            Storage::Node16(map) => StorageIter::Sorted(map.iter_above(byte)),
-            Storage::Node48(map) => StorageIter::Indexed(map.iter_above(byte)),
-            Storage::Node256(map) => StorageIter::Direct(map.iter_above(byte)),
+            Storage::Empty(_) | Storage::Leaf(_, _) => StorageIter::Childless,
+            Storage::Node4(_, map) => StorageIter::Sorted(map.iter_above(byte)),
+            Storage::Node16(_, map) => StorageIter::Sorted(map.iter_above(byte)),
+            Storage::Node48(_, map) => StorageIter::Indexed(map.iter_above(byte)),
+            Storage::Node256(_, map) => StorageIter::Direct(map.iter_above(byte)),
         }
     }
 

@@ -313,6 +313,7 @@ impl<'a, K: KeyTrait + Drop, V> Seen<'a, K, V, Visits> {
         let pairs = self.range_descending_counted(start, end, &mut Visits::new())?;
         Ok(RangeDescending { pairs })
     }
+
     /// Returns the pairs within two bounds, whose bytes may be more than any key has, the last first. It allocates as
     /// [`iter_descending_counted`](Self::iter_descending_counted) does.
     ///

@@ -1,6 +1,6 @@
 use Rattle.std.proofs.Common.{◌∙◌, sym, ap, arith, refl}
 use Rattle.std.specs.Prelude.{max}
-use Rattle.rart_trie.specs.storages.Stored.{child_entries, storage_capacity, stored_value}
+use Rattle.rart_trie.specs.storages.Stored.{child_entries, storage_capacity, stored_prefix, stored_value}
 use Rattle.rart_trie.specs.tries.Trie.{children_in}
 use Rattle.rart_trie.specs.tries.TrieCode.{as_children, node_count}
 use Rattle.rart_trie.proofs.tree_stats.CountLemmas.{own-free, few-high, count-start, count-step, count-free, count-end}
@@ -13,7 +13,7 @@ add_node-requires g t c = omega (
   c.requires,
   ap node_count c.self.view_is,
   c.num_children-children.ensures,
-  own-free (g.P.Partial.bytes c.self.inside.prefix) (stored_value c.self.inside.storage)
+  own-free (g.P.Partial.bytes (stored_prefix c.self.inside.storage)) (stored_value c.self.inside.storage)
       (storage_capacity c.self.inside.storage)
       (child_entries c.self.inside.storage),
 )

@@ -1,5 +1,5 @@
 use Rattle.std.proofs.Common.{ℕ, arith, ap, ◌∙◌, sym, refl}
-use Rattle.rart_trie.specs.storages.Stored.{child_entries, storage_capacity, stored_value}
+use Rattle.rart_trie.specs.storages.Stored.{child_entries, storage_capacity, stored_prefix, stored_value}
 use Rattle.rart_trie.specs.tries.TrieCode.{node_count}
 use Rattle.rart_trie.proofs.storages.ChildLemmas.{canonical-found, count-found}
 use Rattle.rart_trie.proofs.edits.InsertLemmas.{put-below, put-beside, child-put_back, record-no_child, rest-within}
@@ -19,11 +19,13 @@ returns-in_default-first-clause-ok g t c = rw (
   c.replace_value.ensures.stored.0,
   c.replace_value.ensures.stored.1,
   c.replace_value.ensures.stored.2,
+  c.replace_value.ensures.stored.3,
 )
     (sym (trie_put-ended _ c.args.key.now _ c.args.value _ _ _ c.in-Some.ensures c.in_default-first.ensures.value))
 
 -- it continues in a child
-follows : (g : Over) (t : ℕ) (c : In-Some-seek_child_mut g t) → Follows (g.P.Partial.bytes c.self.inside.prefix)
+follows : (g : Over) (t : ℕ) (c : In-Some-seek_child_mut g t) → Follows
+    (g.P.Partial.bytes (stored_prefix c.self.inside.storage))
     c.args.key.now c.in-Some.rest.now (stored_value c.self.inside.storage) (storage_capacity c.self.inside.storage)
     c.in-Some-first.field-0.now
     c.in-Some-seek_child_mut.child.now (child_entries c.self.inside.storage)
@@ -48,12 +50,13 @@ returns-in-Some-seek_child_mut g t c =
     let on = follows g t (goal.at.returns-in-Some-seek_child_mut g t c).In-Some-seek_child_mut in
     let left = rw c.in-Some-seek_child_mut.is at c.seek_child_mut.follows.holds c.put_below.new.self in
     record {
-      ok = on_ok_weaker c.put_below.result (λ e. rw (← c.self.view_is, left.2)
+      ok = on_ok_weaker c.put_below.result (λ e. rw (← c.self.view_is, left.2, left.3)
           (put-below on c.args.value _ _ _ e left.0 left.1)) c.put_below.ensures.ok;
       answer = if_ok_weaker c.put_below.result (λ x e. rw (← c.self.view_is) (e ∙ sym (trie_lookup-child on)))
           c.put_below.ensures.answer;
       unchanged = on_err_weaker c.put_below.result (λ e. rw (← c.self.view_is)
-          (child-put_back _ _ _ _ _ _ _ _ _ on.there e left.0 left.1 left.2)) c.put_below.ensures.unchanged;
+          (child-put_back _ _ _ _ _ _ _ _ _ on.there e left.0 left.1 left.2 (ap g.P.Partial.bytes left.3)))
+          c.put_below.ensures.unchanged;
       absent = on_ok_weaker c.put_below.result (λ fresh only. rw (← c.self.view_is) (trie_lookup-child on ∙ fresh only))
           c.put_below.ensures.absent;
       returned = c.put_below.ensures.returned;
@@ -68,7 +71,15 @@ add_leaf-requires-clause-within g t c = rest-within _ _ c.args.key.now _ c.in-So
 pub returns-in-Ok-reserve_slot-clause-ok : goal.returns-in-Ok-reserve_slot-clause-ok
 returns-in-Ok-reserve_slot-clause-ok g t c =
     let left = c.seek_child_mut.follows.holds-at-none in
-    rw (← c.self.view_is, c.add_leaf.ensures.value_kept, c.in-Ok-reserve_slot.ensures.value_kept, left.2)
+    rw (
+      ← c.self.view_is,
+      c.add_leaf.ensures.value_kept,
+      c.in-Ok-reserve_slot.ensures.value_kept,
+      left.2,
+      c.add_leaf.ensures.prefix_kept,
+      c.in-Ok-reserve_slot.ensures.prefix_kept,
+      left.3,
+    )
     (put-beside _ c.args.key.now _ c.args.value _ _ _ _ (child_entries c.self.inside.storage) _
     (rw (← c.self.view_is) at c.requires.canonical) c.in-Some.ensures c.in-Some-first.ensures.value
     c.in_default-seek_child_mut.ensures.value

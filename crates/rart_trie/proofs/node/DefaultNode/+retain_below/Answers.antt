@@ -1,9 +1,9 @@
 use Rattle.std.proofs.Common.{◌∙◌, arith, length, subst}
 use Rattle.rart_trie.specs.edits.RetainSteps.{CallsForOwn}
-use Rattle.rart_trie.specs.storages.Stored.{child_entries, storage_capacity, stored_value}
+use Rattle.rart_trie.specs.storages.Stored.{child_entries, storage_capacity, stored_prefix, stored_value}
 use Rattle.rart_trie.specs.tries.TrieCode.{as_children}
 use Rattle.rart_trie.proofs.retentions.RetainEndLemmas.{retaining-end, retaining-within}
-use Rattle.rart_trie.proofs.retentions.RetainJoins.{applied-value, only-child-capacity}
+use Rattle.rart_trie.proofs.retentions.RetainJoins.{applied-prefix, applied-value, only-child-capacity}
 use Rattle.rart_trie.proofs.retentions.RetainStepLemmas.{retaining-step}
 use Rattle.rart_trie.proofs.retentions.RetainWalkLemmas.{own-callable, retaining-start, upcoming, upcoming-there}
 use Rattle.rart_trie.proofs.retentions.RetainWalkLemmas.{upcoming-within}
@@ -12,7 +12,7 @@ use Rattle.rart_trie.proofs.node.DefaultNode.+retain_below.Goals as goal
 
 pub extend-requires : goal.extend-requires
 extend-requires g t c = prefix-within _ (length (g.P.Partial.bytes c.args.path.now))
-    (g.P.Partial.bytes c.self.inside.prefix) (stored_value c.self.inside.storage) (storage_capacity
+    (g.P.Partial.bytes (stored_prefix c.self.inside.storage)) (stored_value c.self.inside.storage) (storage_capacity
     c.self.inside.storage)
     (as_children (child_entries c.self.inside.storage)) (rw (← c.self.view_is) at c.requires.canonical)
     (rw (← c.self.view_is) at c.requires.within)
@@ -20,17 +20,22 @@ extend-requires g t c = prefix-within _ (length (g.P.Partial.bytes c.args.path.n
 pub call_for_own-keeps-requires : goal.call_for_own-keeps-requires
 call_for_own-keeps-requires g t c = record {
   callable = λ v e key lent k l. own-callable _ (g.P.Partial.bytes c.args.path.now)
-      (g.P.Partial.bytes c.self.inside.prefix) c.args.f.now (stored_value c.self.inside.storage) v
+      (g.P.Partial.bytes (stored_prefix c.self.inside.storage)) c.args.f.now (stored_value c.self.inside.storage) v
       (storage_capacity c.self.inside.storage) (as_children (child_entries c.self.inside.storage)) e
       (rw (← c.self.view_is) at c.requires.callable) key lent (k ∙ c.to_slice.ensures ∙ c.extend.ensures) l;
 }
 
 pub loop-next-init : goal.loop-next-init
 loop-next-init g t c = record {
-  path = c.extend.ensures;
-  visited = rw (← c.self.view_is, c.call_for_own-keeps.ensures.same.0, c.call_for_own-keeps.ensures.same.1)
+  path = rw c.call_for_own-keeps.ensures.same.3 c.extend.ensures;
+  visited = rw (
+    ← c.self.view_is,
+    c.call_for_own-keeps.ensures.same.0,
+    c.call_for_own-keeps.ensures.same.1,
+    c.call_for_own-keeps.ensures.same.3,
+  )
       (retaining-start _ (g.P.Partial.bytes c.args.path.now)
-      (g.P.Partial.bytes c.self.inside.prefix) c.args.f.now c.call_for_own-keeps.new.f
+      (g.P.Partial.bytes (stored_prefix c.self.inside.storage)) c.args.f.now c.call_for_own-keeps.new.f
       (stored_value c.self.inside.storage)
       (stored_value c.call_for_own-keeps.new.storage) c.call_for_own-keeps.result c.has_value-has_value.result
       (storage_capacity c.self.inside.storage) (child_entries c.self.inside.storage) c.first_byte-next.result
@@ -76,8 +81,12 @@ loop-next-preserved g t c =
     let next = upcoming _ _ _ _ _ _ _ _ _ _ _ _ _ c.in-Some-seek_child_mut.child.now
     (rw c.in-Some.is at c.loop-next.invariant.visited) c.in-Some-seek_child_mut.ensures.value in
     record {
-      path = c.retain_below-below.ensures.path ∙ c.loop-next.invariant.path;
-      visited = rw (applied-value _ _ _ _ _ _ c.apply_to_child-walk.ensures ∙ left.2) (retaining-step _ _ _ _ _ _ _ _
+      path = rw (applied-prefix _ _ _ _ _ _ c.apply_to_child-walk.ensures ∙ left.3) (c.retain_below-below.ensures.path
+          ∙ c.loop-next.invariant.path);
+      visited = rw (
+        applied-value _ _ _ _ _ _ c.apply_to_child-walk.ensures ∙ left.2,
+        applied-prefix _ _ _ _ _ _ c.apply_to_child-walk.ensures ∙ left.3,
+      ) (retaining-step _ _ _ _ _ _ _ _
           _ _ _ _ _ _ _ next c.retain_below-below.result
           c.apply_to_child-walk.result _ c.apply_to_child-walk.new.storage c.following_byte-next.result
           c.retain_below-below.ensures.canonical c.retain_below-below.ensures.keeps_first

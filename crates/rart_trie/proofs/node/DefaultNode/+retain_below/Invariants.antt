@@ -1,5 +1,5 @@
 use Rattle.std.proofs.Common.{◌≡◌, ◌++◌}
-use Rattle.rart_trie.specs.storages.Stored.{child_entries, storage_capacity, stored_value}
+use Rattle.rart_trie.specs.storages.Stored.{child_entries, storage_capacity, stored_prefix, stored_value}
 use Rattle.rart_trie.proofs.retentions.RetainWalkLemmas.{Retaining}
 use Rattle.rart_trie.proofs.storages.EntryPlaces.{ahead_count}
 use Rattle.rart_trie.proofs.node.DefaultNode.+retain_below.Given as goal
@@ -9,9 +9,10 @@ decreases-retain_below g l = goal.size-retain_below g l
 
 abbrev pub invariant-loop-next : goal.invariant-loop-next
 invariant-loop-next g l = record {
-  path : g.P.Partial.bytes l.path ≡ g.P.Partial.bytes l.fn.path ++ g.P.Partial.bytes l.self-inside.prefix;
+  path : g.P.Partial.bytes l.path
+      ≡ g.P.Partial.bytes l.fn.path ++ g.P.Partial.bytes (stored_prefix l.self-inside.storage);
   visited : Retaining g.F.FnMut (g.P.Partial.bytes l.fn.path) l.fn.f l.fn.self l.keeps l.has_value l.walk l.f
-      (g.P.Partial.bytes l.self-inside.prefix) (stored_value l.self-inside.storage) (storage_capacity
+      (g.P.Partial.bytes (stored_prefix l.self-inside.storage)) (stored_value l.self-inside.storage) (storage_capacity
       l.self-inside.storage)
       (child_entries l.self-inside.storage) l.next;
 }

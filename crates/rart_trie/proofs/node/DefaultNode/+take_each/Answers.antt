@@ -1,5 +1,5 @@
 use Rattle.std.proofs.Common.{refl, ◌∙◌, arith, sym}
-use Rattle.rart_trie.specs.storages.Stored.{child_entries, storage_capacity, stored_value}
+use Rattle.rart_trie.specs.storages.Stored.{child_entries, storage_capacity, stored_prefix, stored_value}
 use Rattle.rart_trie.proofs.edits.TakeValueLemmas.{next-child, next-fits, next-there, own-none, own-taken, taking-end}
 use Rattle.rart_trie.proofs.edits.TakeValueLemmas.{taking-start, taking-step}
 use Rattle.rart_trie.proofs.node.DefaultNode.+take_each.Goals.{in-Some, in_default}
@@ -8,7 +8,7 @@ use Rattle.rart_trie.proofs.node.DefaultNode.+take_each.Goals as goal
 pub loop-next-init : goal.loop-next-init
 loop-next-init g t c = elim c.match-take_value.branch [
   | in-Some w ↦ rw (w.values-is, ← c.self.view_is, c.take_value.ensures.emptied.1) (record {
-    taking = taking-start (g.P.Partial.bytes c.self.inside.prefix) (stored_value c.self.inside.storage)
+    taking = taking-start (g.P.Partial.bytes (stored_prefix c.self.inside.storage)) (stored_value c.self.inside.storage)
         (storage_capacity c.self.inside.storage) (child_entries c.self.inside.storage) c.args.values.now.items _ _
         (rw (← c.self.view_is) at c.requires.canonical)
         (own-taken _ _ _ _ (sym c.take_value.ensures.taken ∙ w.in-Some.is) w.push_reserved.ensures.items)
@@ -16,7 +16,7 @@ loop-next-init g t c = elim c.match-take_value.branch [
     capacity = w.push_reserved.ensures.capacity;
   })
   | in_default w ↦ rw (w.values-is, ← c.self.view_is, c.take_value.ensures.emptied.1) (record {
-    taking = taking-start (g.P.Partial.bytes c.self.inside.prefix) (stored_value c.self.inside.storage)
+    taking = taking-start (g.P.Partial.bytes (stored_prefix c.self.inside.storage)) (stored_value c.self.inside.storage)
         (storage_capacity c.self.inside.storage) (child_entries c.self.inside.storage) c.args.values.now.items _ _
         (rw (← c.self.view_is) at c.requires.canonical)
         (own-none _ _ (sym c.take_value.ensures.taken ∙ w.in_default.is))

@@ -4,7 +4,7 @@ use Rattle.rart_keys.specs.SortedMap.{longest_key}
 use Rattle.rart_parts.specs.Entries.{child_at}
 use Rattle.rart_trie.specs.edits.Deletion.{without_child}
 use Rattle.rart_trie.specs.edits.PrefixRemovals.{prefixed_trie}
-use Rattle.rart_trie.specs.storages.Stored.{child_entries, storage_capacity, stored_value}
+use Rattle.rart_trie.specs.storages.Stored.{child_entries, storage_capacity, stored_prefix, stored_value}
 use Rattle.rart_trie.specs.tries.Trie.{pairs_of, prefix_of}
 use Rattle.rart_trie.specs.tries.TrieCode.{as_children, node_count}
 use Rattle.rart_trie.proofs.edits.InsertLemmas.{fewer-within, child-put_back, replaced-same}
@@ -20,12 +20,13 @@ use Rattle.rart_trie.proofs.tries.Descents.{child_of-entries}
 use Rattle.rart_trie.proofs.node.DefaultNode.+take_prefix_below.Goals as goal
 
 pub unreachable-requires : goal.unreachable-requires
-unreachable-requires g t c = continues (g.P.Partial.bytes c.self.inside.prefix) c.args.prefix.now c.in-Some.rest.now
+unreachable-requires g t c = continues (g.P.Partial.bytes (stored_prefix c.self.inside.storage)) c.args.prefix.now
+    c.in-Some.rest.now
     c.in-Some.ensures (rw (← c.self.view_is) at c.requires.not_below) c.in_default-first.ensures.value
 
 pub extend-requires : goal.extend-requires
 extend-requires g t c = prefix-within _ (length (g.P.Partial.bytes c.args.path.now))
-    (g.P.Partial.bytes c.self.inside.prefix) (stored_value c.self.inside.storage) (storage_capacity
+    (g.P.Partial.bytes (stored_prefix c.self.inside.storage)) (stored_value c.self.inside.storage) (storage_capacity
     c.self.inside.storage)
     (as_children (child_entries c.self.inside.storage)) (rw (← c.self.view_is) at c.requires.canonical)
     (rw (← c.self.view_is) at c.requires.within)
@@ -63,7 +64,7 @@ take_prefix_below-requires g t c κs within =
 pub returns-then-not-is_below-clause-ok : goal.returns-then-not-is_below-clause-ok
 returns-then-not-is_below-clause-ok g t c =
     let left = rw c.in-Some-seek_child_mut.is at c.seek_child_mut.follows.holds c.take_prefix_below.new.self in
-    on_ok_weaker c.take_prefix_below.result (λ r. rw (← c.self.view_is, left.2)
+    on_ok_weaker c.take_prefix_below.result (λ r. rw (← c.self.view_is, left.2, left.3)
     (without_prefix-below _ c.args.prefix.now _ _ _ _ _ c.in-Some-seek_child_mut.child.now
     c.take_prefix_below.new.self (child_entries c.self.inside.storage) _
     (rw (← c.self.view_is) at c.requires.canonical) c.in-Some.ensures c.in-Some-first.ensures.value
@@ -72,10 +73,10 @@ returns-then-not-is_below-clause-ok g t c =
 pub returns-then-not-is_below-clause-taken : goal.returns-then-not-is_below-clause-taken
 returns-then-not-is_below-clause-taken g t c =
     let grown : (g.P.Partial.bytes c.extend.new.path) ≡ (g.P.Partial.bytes c.args.path.now)
-    ++ (g.P.Partial.bytes c.self.inside.prefix) = c.extend.ensures in
+    ++ (g.P.Partial.bytes (stored_prefix c.self.inside.storage)) = c.extend.ensures in
     on_ok_weaker c.take_prefix_below.result (λ r. r ∙ rw (← c.self.view_is)
     (below-child_part (g.P.Partial.bytes c.args.path.now) (g.P.Partial.bytes c.extend.new.path)
-    (g.P.Partial.bytes c.self.inside.prefix) c.args.prefix.now _ (stored_value c.self.inside.storage)
+    (g.P.Partial.bytes (stored_prefix c.self.inside.storage)) c.args.prefix.now _ (stored_value c.self.inside.storage)
     (storage_capacity c.self.inside.storage) _
     c.in-Some-seek_child_mut.child.now (child_entries c.self.inside.storage)
     (rw (← c.self.view_is) at c.requires.canonical) c.in-Some.ensures c.in-Some-first.ensures.value
@@ -86,7 +87,8 @@ returns-then-not-is_below-clause-unchanged g t c =
     let left = rw c.in-Some-seek_child_mut.is at c.seek_child_mut.follows.holds c.take_prefix_below.new.self in
     on_err_weaker c.take_prefix_below.result (λ e. rw (← c.self.view_is)
     (child-put_back _ _ _ _ _ c.in-Some-seek_child_mut.child.now c.take_prefix_below.new.self
-    (child_entries c.self.inside.storage) _ c.in-Some-seek_child_mut.ensures.value e left.0 left.1 left.2))
+    (child_entries c.self.inside.storage) _ c.in-Some-seek_child_mut.ensures.value e left.0 left.1 left.2
+    (ap g.P.Partial.bytes left.3)))
     c.take_prefix_below.ensures.unchanged
 
 pub returns-then-not-is_below-clause-allocates : goal.returns-then-not-is_below-clause-allocates
@@ -100,7 +102,7 @@ returns-then-not-is_below-clause-allocates g t c = on_err_weaker c.take_prefix_b
 pub returns-in-None-clause-ok : goal.returns-in-None-clause-ok
 returns-in-None-clause-ok g t c =
     let left = c.seek_child_mut.follows.holds-at-none in
-    rw (← c.self.view_is, left.2) (without_prefix-absent _ c.args.prefix.now _ _ _ _ _
+    rw (← c.self.view_is, left.2, left.3) (without_prefix-absent _ c.args.prefix.now _ _ _ _ _
     (child_entries c.self.inside.storage) _
     (rw (← c.self.view_is) at c.requires.canonical) c.in-Some.ensures c.in-Some-first.ensures.value
     c.in-None.ensures.value left.0 left.1)
@@ -121,7 +123,8 @@ take_whole-requires-clause-within g t c =
     c.in-Some-seek_child_mut.ensures.value in
     let fits = fewer-within _ (length (g.P.Partial.bytes c.args.path.now) + longest_key (pairs_of c.args.self.now))
     (longest_key (pairs_of c.args.self.now)) (omega arith) c.requires.within in
-    rw same (joins-canonical _ _ _ (storage_capacity c.self.inside.storage) _ canonical (rw (← c.self.view_is) at fits))
+    rw (same, left.3) (joins-canonical _ _ _ (storage_capacity c.self.inside.storage) _ canonical
+    (rw (← c.self.view_is) at fits))
 
 pub take_whole-requires-clause-stored : goal.take_whole-requires-clause-stored
 take_whole-requires-clause-stored g t c =
@@ -152,7 +155,8 @@ returns-clause-ok g t c =
     let left = rw c.in-Some-seek_child_mut.is at c.seek_child_mut.follows.holds c.in-Some-seek_child_mut.child.now in
     on_ok_weaker c.take_whole.result (λ e. ap Some (e ∙ ap (without_child _)
     (child-put_back _ _ _ _ _ c.in-Some-seek_child_mut.child.now c.in-Some-seek_child_mut.child.now
-    (child_entries c.self.inside.storage) _ c.in-Some-seek_child_mut.ensures.value refl left.0 left.1 left.2))
+    (child_entries c.self.inside.storage) _ c.in-Some-seek_child_mut.ensures.value refl left.0 left.1 left.2
+    (ap g.P.Partial.bytes left.3)))
     ∙ rw (← c.self.view_is) (without_prefix-taken _ c.args.prefix.now _ _ _ _ c.in-Some-seek_child_mut.child.now
     (child_entries c.self.inside.storage)
     (rw (← c.self.view_is) at c.requires.canonical) c.in-Some.ensures c.in-Some-first.ensures.value
@@ -167,11 +171,11 @@ returns-clause-taken g t c =
     let found = child_of-entries _ (child_entries (c.seek_child_mut.follows.lender c.in-Some-seek_child_mut.child.now))
     ∙ ap (child_at _) same ∙ sym c.in-Some-seek_child_mut.ensures.value in
     let grown : (g.P.Partial.bytes c.extend.new.path) ≡ (g.P.Partial.bytes c.args.path.now)
-    ++ (g.P.Partial.bytes c.self.inside.prefix) = c.extend.ensures in
+    ++ (g.P.Partial.bytes (stored_prefix c.self.inside.storage)) = c.extend.ensures in
     on_ok_weaker c.take_whole.result
     (λ e. e ∙ ap (option_map (prefixed_trie (g.P.Partial.bytes c.extend.new.path))) found
     ∙ rw (← c.self.view_is) (below-taken (g.P.Partial.bytes c.args.path.now) (g.P.Partial.bytes c.extend.new.path)
-    (g.P.Partial.bytes c.self.inside.prefix) c.args.prefix.now _ (stored_value c.self.inside.storage)
+    (g.P.Partial.bytes (stored_prefix c.self.inside.storage)) c.args.prefix.now _ (stored_value c.self.inside.storage)
     (storage_capacity c.self.inside.storage) _
     c.in-Some-seek_child_mut.child.now (child_entries c.self.inside.storage)
     (rw (← c.self.view_is) at c.requires.canonical) c.in-Some.ensures c.in-Some-first.ensures.value
@@ -184,6 +188,7 @@ returns-clause-unchanged g t c =
     on_err_weaker c.take_whole.result (λ e. e
     ∙ child-put_back _ _ _ _ _ c.in-Some-seek_child_mut.child.now c.in-Some-seek_child_mut.child.now
     (child_entries c.self.inside.storage) _ c.in-Some-seek_child_mut.ensures.value refl left.0 left.1 left.2
+    (ap g.P.Partial.bytes left.3)
     ∙ c.self.view_is)
     c.take_whole.ensures.unchanged
 
@@ -209,7 +214,7 @@ returns-then-not-is_below-clause-bound g t c =
       c.is_below.ensures.counted,
       c.take_prefix_below.ensures.bound,
       ap (λ t. length (prefix_of t)) c.self.view_is,
-      visits-below (g.P.Partial.bytes c.self.inside.prefix) c.args.prefix.now c.in-Some.rest.now _
+      visits-below (g.P.Partial.bytes (stored_prefix c.self.inside.storage)) c.args.prefix.now c.in-Some.rest.now _
           c.in-Some-seek_child_mut.child.now (child_entries c.self.inside.storage) canonical.2 c.in-Some.ensures
           c.in-Some-first.ensures.value c.in-Some-seek_child_mut.ensures.value,
     )
@@ -221,7 +226,7 @@ returns-clause-bound g t c =
       arith,
       c.is_below.ensures.counted,
       ap (λ t. length (prefix_of t)) c.self.view_is,
-      visits-below (g.P.Partial.bytes c.self.inside.prefix) c.args.prefix.now c.in-Some.rest.now _
+      visits-below (g.P.Partial.bytes (stored_prefix c.self.inside.storage)) c.args.prefix.now c.in-Some.rest.now _
           c.in-Some-seek_child_mut.child.now (child_entries c.self.inside.storage) canonical.2 c.in-Some.ensures
           c.in-Some-first.ensures.value c.in-Some-seek_child_mut.ensures.value,
     )

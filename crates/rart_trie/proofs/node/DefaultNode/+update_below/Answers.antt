@@ -2,7 +2,7 @@ use Rattle.std.proofs.Common.{arith, ap, ◌∙◌, sym, ◌≡◌, ◌≢◌, �
 use Rattle.rart_keys.specs.SortedMap.{longest_key}
 use Rattle.rart_trie.specs.declared.slot.SlotUpdate.TheVariants.{Remove}
 use Rattle.rart_trie.specs.edits.Deletion.{is_leaf_at}
-use Rattle.rart_trie.specs.storages.Stored.{child_entries, storage_capacity, stored_value}
+use Rattle.rart_trie.specs.storages.Stored.{child_entries, storage_capacity, stored_prefix, stored_value}
 use Rattle.rart_trie.specs.tries.Trie.{pairs_of, trie_lookup}
 use Rattle.rart_trie.specs.tries.TrieCode.{as_children, node_count}
 use Rattle.rart_trie.specs.edits.Slots.{slot_of}
@@ -63,7 +63,7 @@ show-left-requires g t c = record {
 }
 
 pub apply_here-requires-clause-within : goal.apply_here-requires-clause-within
-apply_here-requires-clause-within g t c = rw c.take_value.ensures.emptied.1
+apply_here-requires-clause-within g t c = rw (c.take_value.ensures.emptied.1, c.take_value.ensures.emptied.3)
     (joins-canonical _ _ _ (storage_capacity c.self.inside.storage) _ (rw (← c.self.view_is) at c.requires.canonical)
     (rw (← c.self.view_is) at c.requires.within))
 
@@ -83,11 +83,16 @@ returns-in_default-first g t c =
           (child_entries c.self.inside.storage) (rw (← c.self.view_is) at c.requires.canonical) c.in-Some.ensures
           c.in_default-first.ensures.value (rw (← c.self.view_is) at c.requires.not_leaf) c.show-left.result.answer
           c.show-left.result.left c.apply_here.result c.apply_here.new.self stays
-          (rw (c.take_value.ensures.emptied.0, c.take_value.ensures.emptied.1) at c.apply_here.ensures)),
+          (rw (
+            c.take_value.ensures.emptied.0,
+            c.take_value.ensures.emptied.1,
+            c.take_value.ensures.emptied.3,
+          ) at c.apply_here.ensures)),
     )
 
 -- it continues in a child
-follows : (g : Over) (t : ℕ) (c : In-Some-seek_child_mut g t) → Follows (g.P.Partial.bytes c.self.inside.prefix)
+follows : (g : Over) (t : ℕ) (c : In-Some-seek_child_mut g t) → Follows
+    (g.P.Partial.bytes (stored_prefix c.self.inside.storage))
     c.args.key.now c.in-Some.rest.now (stored_value c.self.inside.storage) (storage_capacity c.self.inside.storage)
     c.in-Some-first.field-0.now
     c.in-Some-seek_child_mut.child.now (child_entries c.self.inside.storage)
@@ -111,7 +116,7 @@ update_below-requires g t c κs within =
     let fits_key = rest-within _ _ c.args.key.now _ on.left c.requires.key_within in
     let fits = fewer-within _ (longest_key (pairs_of c.args.self.now))
     (longest_key (pairs_of c.in-Some-seek_child_mut.child.now)) (rw (← c.self.view_is)
-    (entry-short (g.P.Partial.bytes c.self.inside.prefix) (stored_value c.self.inside.storage)
+    (entry-short (g.P.Partial.bytes (stored_prefix c.self.inside.storage)) (stored_value c.self.inside.storage)
     (storage_capacity c.self.inside.storage) _
     c.in-Some-seek_child_mut.child.now (child_entries c.self.inside.storage) on.there)) c.requires.within in
     let inner = sym c.is_leaf_at.ensures ∙ c.if-not-is_leaf_at.true in
@@ -130,7 +135,8 @@ returns-then-not-is_leaf_at g t c =
       e.0,
       e.1,
       rw (← c.self.view_is, trie_lookup-child on) e.2,
-      rw (← c.self.view_is, left.2) (ends-child on _ _ _ left.0 left.1 c.args.full e.0 e.1 c.update_below.result.0
+      rw (← c.self.view_is, left.2, left.3) (ends-child on _ _ _ left.0 left.1 c.args.full e.0 e.1
+          c.update_below.result.0
           (sym c.is_leaf_at.ensures ∙ c.if-not-is_leaf_at.true) e.3),
     )
 
@@ -167,7 +173,8 @@ returns-in-Some-outcome g t c =
       e.0,
       e.1,
       rw (← c.self.view_is, trie_lookup-child on, leaf-value _ c.in-Some-seek_child_mut.child.now leaf) e.2,
-      rw (← c.self.view_is, left.2) (ends-child_ok on _ _ _ left.0 left.1 c.args.full e.0 e.1 c.in-Some-outcome.outcome
+      rw (← c.self.view_is, left.2, left.3) (ends-child_ok on _ _ _ left.0 left.1 c.args.full e.0 e.1
+          c.in-Some-outcome.outcome
           (leaf-done c.args.full _ c.in-Some-seek_child_mut.child.now c.update_leaf.new.self e.0 e.1
           c.in-Some-outcome.outcome leaf done)),
     )
@@ -187,8 +194,8 @@ remove_leaf-requires g t c =
     let left = rw c.in-Some-seek_child_mut.is at c.seek_child_mut.follows.holds c.update_leaf.new.self in
     let found = child-there _ _ c.update_leaf.new.self _ _ on.there left.1 in
     record {
-      within = joins-holding _ _ _ _ _ _ _ _ on.there lost.2 left.1 (joins-canonical _ _ _
-          (storage_capacity c.self.inside.storage) _ on.canonical (rw (← c.self.view_is) at c.requires.within));
+      within = rw left.3 (joins-holding _ _ _ _ _ _ _ _ on.there lost.2 left.1 (joins-canonical _ _ _
+          (storage_capacity c.self.inside.storage) _ on.canonical (rw (← c.self.view_is) at c.requires.within)));
       stored = some-there c.update_leaf.new.self _ found;
       leaf = rw found (
         holding-edges _ _ _ c.update_leaf.new.self (at-leaf g t at.Else-not-is_leaf_at) lost.2,
@@ -208,7 +215,7 @@ returns-in-None-outcome g t c =
       e.1,
       rw (← c.self.view_is, trie_lookup-child on, leaf-value _ c.in-Some-seek_child_mut.child.now leaf) e.2,
       rw (← c.self.view_is) (ends-lost on _ _ _ left.0 left.1 c.args.full e.0 e.1 c.remove_leaf.result
-          c.remove_leaf.new.self leaf lost.0 lost.1 lost.2 (rw left.2 at c.remove_leaf.ensures)),
+          c.remove_leaf.new.self leaf lost.0 lost.1 lost.2 (rw (left.2, left.3) at c.remove_leaf.ensures)),
     )
 
 -- there is no child
@@ -247,6 +254,6 @@ returns-in-None g t c =
       ends-same c.args.full
           c.args.key.now c.show_vacant-answer-in-None.result.0 None c.args.self.now _ c.apply_to_child.result
           (Some c.apply_to_child.new.self) (same-node _ _ _ _ (child_entries c.self.inside.storage) _ left.0 left.1
-          left.2
-          ∙ c.self.view_is) (c.apply_to_child.ensures c.args.key.now c.in-Some.ensures),
+          left.2 (ap g.P.Partial.bytes left.3)
+          ∙ c.self.view_is) (c.apply_to_child.ensures c.args.key.now (rw left.3 c.in-Some.ensures)),
     )

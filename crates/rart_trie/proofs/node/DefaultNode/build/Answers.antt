@@ -6,8 +6,8 @@ build_below-requires-clause-stretch g c = whole-stretch _ c.args.keys.now c.requ
     c.requires.ascending
 
 pub returns-clause-keys : goal.returns-clause-keys
-returns-clause-keys g c = rw (c.from_slice.ensures, c.first_part.ensures, ← rests-whole c.args.keys.now)
+returns-clause-keys g c = rw (c.node_with_prefix.ensures, c.first_part.ensures, ← rests-whole c.args.keys.now)
     c.in_ok-storage.ensures.keys
 
 pub returns-clause-values : goal.returns-clause-values
-returns-clause-values g c = rw (c.from_slice.ensures, c.first_part.ensures) c.in_ok-storage.ensures.values
+returns-clause-values g c = rw (c.node_with_prefix.ensures, c.first_part.ensures) c.in_ok-storage.ensures.values

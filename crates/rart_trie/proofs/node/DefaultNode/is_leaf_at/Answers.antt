@@ -1,11 +1,12 @@
 use Rattle.std.proofs.Common.{◌∙◌, sym, arith}
-use Rattle.rart_trie.specs.storages.Stored.{child_entries, storage_capacity, stored_value}
+use Rattle.rart_trie.specs.storages.Stored.{child_entries, storage_capacity, stored_prefix, stored_value}
 use Rattle.rart_trie.proofs.edits.LeafLemmas.{leaf_at-inner, leaf_at-left, leaf_at-rest}
 use Rattle.rart_trie.proofs.node.DefaultNode.is_leaf_at.Goals as goal
 
 pub returns-then-num_children-gt0 : goal.returns-then-num_children-gt0
 returns-then-num_children-gt0 g c = rw (← c.self.view_is)
-    (sym (leaf_at-inner (g.P.Partial.bytes c.self.inside.prefix) c.args.key.now (stored_value c.self.inside.storage)
+    (sym (leaf_at-inner (g.P.Partial.bytes (stored_prefix c.self.inside.storage)) c.args.key.now
+    (stored_value c.self.inside.storage)
     (storage_capacity c.self.inside.storage) (child_entries c.self.inside.storage)
     (omega (arith, c.num_children.ensures, c.if-num_children-gt0.true))))
 

@@ -23,7 +23,8 @@ returns-in_default-clause-taken g c = rw (← c.self.view_is) (sym c.in_default.
 pub returns-in_default-clause-rest : goal.returns-in_default-clause-rest
 returns-in_default-clause-rest g c =
     let none = sym c.in_ok-child.ensures.taken ∙ c.in_default.is in
-    rw (← c.self.view_is, c.in_ok-child.ensures.value_kept) (without-none _ _ (storage_capacity c.self.inside.storage) _
+    rw (← c.self.view_is, c.in_ok-child.ensures.value_kept, c.in_ok-child.ensures.prefix_kept)
+    (without-none _ _ (storage_capacity c.self.inside.storage) _
     c.args.b
     (child_entries c.self.inside.storage) _
     none c.in_ok-child.ensures.entries
@@ -33,7 +34,8 @@ returns-in_default-clause-rest g c =
 
 pub merge_with_only_child-requires-clause-within : goal.merge_with_only_child-requires-clause-within
 merge_with_only_child-requires-clause-within g c
-    = rw c.in_ok-child.ensures.entries (joins-without _ _ c.args.b (child_entries c.self.inside.storage)
+    = rw (c.in_ok-child.ensures.entries, c.in_ok-child.ensures.prefix_kept)
+    (joins-without _ _ c.args.b (child_entries c.self.inside.storage)
     (rw (← c.self.view_is) at c.requires.within))
 
 pub returns-clause-taken : goal.returns-clause-taken
@@ -50,10 +52,12 @@ returns-clause-rest g c =
     else storage_capacity c.self.inside.storage) some in
     rw (← c.self.view_is) (elim c.if-smallest.branch [
       | then-smallest w ↦ w.self-is ∙ w.merge_with_only_child.ensures
-          ∙ rw c.in_ok-child.ensures.value_kept (without-joined _ _ (storage_capacity c.self.inside.storage) _ c.args.b
+          ∙ rw (c.in_ok-child.ensures.value_kept, c.in_ok-child.ensures.prefix_kept)
+          (without-joined _ _ (storage_capacity c.self.inside.storage) _ c.args.b
           (child_entries c.self.inside.storage) _
           (sym c.capacity-smallest.ensures ∙ w.if-smallest.true) there c.in_ok-child.ensures.entries capacity)
-      | else-smallest w ↦ w.self-is ∙ rw c.in_ok-child.ensures.value_kept (without-wide _ _
+      | else-smallest w ↦ w.self-is ∙ rw (c.in_ok-child.ensures.value_kept, c.in_ok-child.ensures.prefix_kept)
+          (without-wide _ _
           (storage_capacity c.self.inside.storage) _ c.args.b
           (child_entries c.self.inside.storage) _ (λ e. w.if-smallest.false (c.capacity-smallest.ensures ∙ e)) there
           c.in_ok-child.ensures.entries capacity)

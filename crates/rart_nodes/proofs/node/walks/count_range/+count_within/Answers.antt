@@ -1,30 +1,32 @@
-use Rattle.std.proofs.Common.{◌≡◌, Some, arith, ap, length, sym, ◌∙◌}
-use Rattle.rart_nodes.specs.ranges.BoundCuts.{bound_past}
+use Rattle.std.proofs.Common.{◌≡◌, ◌≤◌, ◌+◌, ◌*◌, ◌++◌, ℕ, Some, arith, ap, length, sym, ◌∙◌}
+use Rattle.rart_nodes.specs.ranges.BoundCuts.{bound_past, path_count}
 use Rattle.rart_nodes.specs.ranges.LentBounds.{lent_bound}
 use Rattle.rart_trie.specs.declared.node.ends.End.TheVariants.{First, Last}
-use Rattle.rart_trie.specs.tries.Trie.{children_pairs, pairs_of, prefix_of}
+use Rattle.rart_trie.specs.tries.Trie.{children_in, children_pairs, own_pair, pairs_of, prefix_of, value_of}
 use Rattle.rart_trie.specs.tries.TrieCode.{node_count}
 use Rattle.rart_trie.proofs.tries.CanonicalTests.{IsCanonical-test}
 use Rattle.rart_nodes.proofs.joins.AlignmentLemmas.{fewer-below, fewer-left}
 use Rattle.rart_nodes.proofs.ranges.CountedBounds.{all-counted, count-few, count_in, counted, ended, few-children}
-use Rattle.rart_nodes.proofs.ranges.CountedBounds.{fewer-pairs, inside, outside, outside-end, passed}
+use Rattle.rart_nodes.proofs.ranges.CountedBounds.{fewer-pairs, inside, most_below, outside, outside-end, passed}
 use Rattle.rart_nodes.proofs.ranges.CountedBounds.{rest-canonical, visits-inside, visits-outside}
 use Rattle.rart_nodes.proofs.walks.PartLemmas.{few-count}
+use Rattle.rart_nodes.proofs.node.walks.count_range.+count_within.Given.{Over}
+use Rattle.rart_nodes.proofs.node.walks.count_range.+count_within.Goals.{In-Some-after_prefix}
 use Rattle.rart_nodes.proofs.node.walks.count_range.+count_within.Goals as goal
 
 -- without a bound all are counted
-pub returns-then-not-is_range-clause-value : goal.returns-then-not-is_range-clause-value
-returns-then-not-is_range-clause-value g t c = c.count_below.ensures.value
+pub returns-then-not-has_bounds-clause-value : goal.returns-then-not-has_bounds-clause-value
+returns-then-not-has_bounds-clause-value g t c = c.count_below.ensures.value
     ∙ sym (all-counted (lent_bound c.args.start) (lent_bound c.args.end) (pairs_of c.args.at.node.now)
-    (sym c.is_range.ensures ∙ c.if-not-is_range.true))
+    (sym c.has_bounds.ensures ∙ c.if-not-has_bounds.true))
 
-pub returns-then-not-is_range-clause-visits : goal.returns-then-not-is_range-clause-visits
-returns-then-not-is_range-clause-visits g t c = omega (
+pub returns-then-not-has_bounds-clause-visits : goal.returns-then-not-has_bounds-clause-visits
+returns-then-not-has_bounds-clause-visits g t c = omega (
   arith,
   c.count_below.ensures.visits,
   few-count c.args.at.node.now (IsCanonical-test c.args.at.node.now c.args.at.canonical),
   all-counted (lent_bound c.args.start) (lent_bound c.args.end) (pairs_of c.args.at.node.now)
-      (sym c.is_range.ensures ∙ c.if-not-is_range.true),
+      (sym c.has_bounds.ensures ∙ c.if-not-has_bounds.true),
 )
 
 -- the node is past one of the bounds
@@ -37,7 +39,7 @@ pub returns-in_default-clause-visits : goal.returns-in_default-clause-visits
 returns-in_default-clause-visits g t c = omega (
   arith,
   visits-outside (lent_bound c.args.start) (lent_bound c.args.end) c.args.at.node.now
-      (sym c.is_range.ensures ∙ c.if-not-is_range.false),
+      (sym c.has_bounds.ensures ∙ c.if-not-has_bounds.false),
 )
 
 pub returns-in_default-after_prefix-clause-value : goal.returns-in_default-after_prefix-clause-value
@@ -50,8 +52,33 @@ pub returns-in_default-after_prefix-clause-visits : goal.returns-in_default-afte
 returns-in_default-after_prefix-clause-visits g t c = omega (
   arith,
   visits-outside (lent_bound c.args.start) (lent_bound c.args.end) c.args.at.node.now
-      (sym c.is_range.ensures ∙ c.if-not-is_range.false),
+      (sym c.has_bounds.ensures ∙ c.if-not-has_bounds.false),
 )
+
+-- what the bounds are after the node's prefix
+start-past : (g : Over) (t : ℕ) (c : In-Some-after_prefix g t)
+    → bound_past First (prefix_of c.args.at.node.now) (lent_bound c.args.start) ≡ Some (lent_bound c.in-Some.low)
+start-past g t c = ap (λ z. bound_past First z (lent_bound c.args.start)) (sym c.prefix.ensures) ∙ sym c.in-Some.ensures
+
+end-past : (g : Over) (t : ℕ) (c : In-Some-after_prefix g t)
+    → bound_past Last (prefix_of c.args.at.node.now) (lent_bound c.args.end)
+    ≡ Some (lent_bound c.in-Some-after_prefix.high)
+end-past g t c = ap (λ z. bound_past Last z (lent_bound c.args.end)) (sym c.prefix-2.ensures)
+    ∙ sym c.in-Some-after_prefix.ensures
+
+-- its own pair and those of its children are counted by these
+own-count : (g : Over) (t : ℕ) (c : In-Some-after_prefix g t)
+    → count_in (Some (lent_bound c.args.start)) (Some (lent_bound c.args.end)) (pairs_of c.args.at.node.now)
+    ≡ count_in (Some (lent_bound c.in-Some.low)) (Some (lent_bound c.in-Some-after_prefix.high))
+    (own_pair (value_of c.args.at.node.now) ++ children_pairs (children_in c.args.at.node.now))
+own-count g t c = inside _ _ _ _ c.args.at.node.now (start-past g t c) (end-past g t c)
+
+own-visits : (g : Over) (t : ℕ) (c : In-Some-after_prefix g t)
+    → 1 + most_below (lent_bound c.in-Some.low) (lent_bound c.in-Some-after_prefix.high) (children_in c.args.at.node.now)
+    ≤ path_count (lent_bound c.args.start) c.args.at.node.now + path_count (lent_bound c.args.end) c.args.at.node.now
+    + 2 * count_in (Some (lent_bound c.args.start)) (Some (lent_bound c.args.end)) (pairs_of c.args.at.node.now)
+own-visits g t c = visits-inside _ _ _ _ c.args.at.node.now (sym c.has_bounds.ensures ∙ c.if-not-has_bounds.false)
+    c.args.at.canonical (start-past g t c) (end-past g t c)
 
 -- a child before the start
 pub loop-byte-preserved-in_default-at_child : goal.loop-byte-preserved-in_default-at_child
@@ -70,38 +97,20 @@ loop-byte-preserved-in_default-at_child g t c =
 
 -- a child past the end
 pub returns-in_default-at_child-2-clause-value : goal.returns-in_default-at_child-2-clause-value
-returns-in_default-at_child-2-clause-value g t c =
-    let a = lent_bound c.args.start in
-    let b = lent_bound c.args.end in
-    let o = lent_bound c.in-Some.low in
-    let u = lent_bound c.in-Some-after_prefix.high in
-    let q : bound_past First (prefix_of c.args.at.node.now) a ≡ Some o
-    = ap (λ z. bound_past First z a) (sym c.prefix.ensures) ∙ sym c.in-Some.ensures in
-    let r : bound_past Last (prefix_of c.args.at.node.now) b ≡ Some u
-    = ap (λ z. bound_past Last z b) (sym c.prefix-2.ensures) ∙ sym c.in-Some-after_prefix.ensures in
-    omega (
-      arith,
-      c.loop-byte.invariant.count,
-      ended o u _ _ _ _ c.in-Some-next_child.ensures c.loop-byte.invariant.canonical c.in_default-at_child-2.ensures,
-      inside a b o u c.args.at.node.now q r,
-    )
+returns-in_default-at_child-2-clause-value g t c = omega (
+  arith,
+  c.loop-byte.invariant.count,
+  ended (lent_bound c.in-Some.low) (lent_bound c.in-Some-after_prefix.high) _ _ _ _ c.in-Some-next_child.ensures
+      c.loop-byte.invariant.canonical c.in_default-at_child-2.ensures,
+  own-count g t (goal.at.returns-in_default-at_child-2-clause-value g t c).In-Some-after_prefix,
+)
 
 pub returns-in_default-at_child-2-clause-visits : goal.returns-in_default-at_child-2-clause-visits
-returns-in_default-at_child-2-clause-visits g t c =
-    let a = lent_bound c.args.start in
-    let b = lent_bound c.args.end in
-    let o = lent_bound c.in-Some.low in
-    let u = lent_bound c.in-Some-after_prefix.high in
-    let q : bound_past First (prefix_of c.args.at.node.now) a ≡ Some o
-    = ap (λ z. bound_past First z a) (sym c.prefix.ensures) ∙ sym c.in-Some.ensures in
-    let r : bound_past Last (prefix_of c.args.at.node.now) b ≡ Some u
-    = ap (λ z. bound_past Last z b) (sym c.prefix-2.ensures) ∙ sym c.in-Some-after_prefix.ensures in
-    omega (
-      arith,
-      c.loop-byte.invariant.visits,
-      visits-inside a b o u c.args.at.node.now (sym c.is_range.ensures ∙ c.if-not-is_range.false) c.args.at.canonical
-          q r,
-    )
+returns-in_default-at_child-2-clause-visits g t c = omega (
+  arith,
+  c.loop-byte.invariant.visits,
+  own-visits g t (goal.at.returns-in_default-at_child-2-clause-visits g t c).In-Some-after_prefix,
+)
 
 -- a child that is counted
 pub count_within-count-requires : goal.count_within-count-requires
@@ -135,16 +144,9 @@ count_within-count-requires g t c κs within =
 
 pub overflow_add-count : goal.overflow_add-count
 overflow_add-count g t c =
-    let a = lent_bound c.args.start in
-    let b = lent_bound c.args.end in
-    let o = lent_bound c.in-Some.low in
-    let u = lent_bound c.in-Some-after_prefix.high in
-    let q : bound_past First (prefix_of c.args.at.node.now) a ≡ Some o
-    = ap (λ z. bound_past First z a) (sym c.prefix.ensures) ∙ sym c.in-Some.ensures in
-    let r : bound_past Last (prefix_of c.args.at.node.now) b ≡ Some u
-    = ap (λ z. bound_past Last z b) (sym c.prefix-2.ensures) ∙ sym c.in-Some-after_prefix.ensures in
     let given = rw c.enter.ensures.shown at c.count_within-count.ensures.value in
-    let p = counted o u (lent_bound c.in-Some-at_child.child_low) (lent_bound c.in-Some-at_child-2.child_high) _ _ _ _
+    let p = counted (lent_bound c.in-Some.low) (lent_bound c.in-Some-after_prefix.high)
+    (lent_bound c.in-Some-at_child.child_low) (lent_bound c.in-Some-at_child-2.child_high) _ _ _ _
     c.in-Some-next_child.ensures c.loop-byte.invariant.canonical c.in-Some-at_child.ensures
     c.in-Some-at_child-2.ensures in
     omega (
@@ -152,8 +154,8 @@ overflow_add-count g t c =
       given,
       p.0,
       c.loop-byte.invariant.count,
-      inside a b o u c.args.at.node.now q r,
-      count-few (Some a) (Some b) (pairs_of c.args.at.node.now),
+      own-count g t (goal.at.overflow_add-count g t c).In-Some-after_prefix,
+      count-few (Some (lent_bound c.args.start)) (Some (lent_bound c.args.end)) (pairs_of c.args.at.node.now),
       c.requires,
     )
 
@@ -176,35 +178,17 @@ loop-byte-preserved g t c =
 
 -- no child is left
 pub returns-clause-value : goal.returns-clause-value
-returns-clause-value g t c =
-    let a = lent_bound c.args.start in
-    let b = lent_bound c.args.end in
-    let o = lent_bound c.in-Some.low in
-    let u = lent_bound c.in-Some-after_prefix.high in
-    let q : bound_past First (prefix_of c.args.at.node.now) a ≡ Some o
-    = ap (λ z. bound_past First z a) (sym c.prefix.ensures) ∙ sym c.in-Some.ensures in
-    let r : bound_past Last (prefix_of c.args.at.node.now) b ≡ Some u
-    = ap (λ z. bound_past Last z b) (sym c.prefix-2.ensures) ∙ sym c.in-Some-after_prefix.ensures in
-    omega (
-      arith,
-      c.loop-byte.invariant.count,
-      ap (λ z. count_in (Some o) (Some u) (children_pairs z)) c.in_default-next_child.ensures.0,
-      inside a b o u c.args.at.node.now q r,
-    )
+returns-clause-value g t c = omega (
+  arith,
+  c.loop-byte.invariant.count,
+  ap (λ z. count_in (Some (lent_bound c.in-Some.low)) (Some (lent_bound c.in-Some-after_prefix.high))
+      (children_pairs z)) c.in_default-next_child.ensures.0,
+  own-count g t (goal.at.returns-clause-value g t c).In-Some-after_prefix,
+)
 
 pub returns-clause-visits : goal.returns-clause-visits
-returns-clause-visits g t c =
-    let a = lent_bound c.args.start in
-    let b = lent_bound c.args.end in
-    let o = lent_bound c.in-Some.low in
-    let u = lent_bound c.in-Some-after_prefix.high in
-    let q : bound_past First (prefix_of c.args.at.node.now) a ≡ Some o
-    = ap (λ z. bound_past First z a) (sym c.prefix.ensures) ∙ sym c.in-Some.ensures in
-    let r : bound_past Last (prefix_of c.args.at.node.now) b ≡ Some u
-    = ap (λ z. bound_past Last z b) (sym c.prefix-2.ensures) ∙ sym c.in-Some-after_prefix.ensures in
-    omega (
-      arith,
-      c.loop-byte.invariant.visits,
-      visits-inside a b o u c.args.at.node.now (sym c.is_range.ensures ∙ c.if-not-is_range.false) c.args.at.canonical
-          q r,
-    )
+returns-clause-visits g t c = omega (
+  arith,
+  c.loop-byte.invariant.visits,
+  own-visits g t (goal.at.returns-clause-visits g t c).In-Some-after_prefix,
+)

@@ -1,5 +1,5 @@
 use Rattle.std.proofs.Common.{arith, ap}
-use Rattle.rart_trie.specs.storages.Stored.{child_entries, storage_capacity, stored_value}
+use Rattle.rart_trie.specs.storages.Stored.{child_entries, storage_capacity, stored_prefix, stored_value}
 use Rattle.rart_trie.specs.tries.Trie.{node}
 use Rattle.rart_trie.specs.tries.TrieCode.{as_children, node_count}
 use Rattle.rart_trie.proofs.storages.DropLemmas.{dropping-fewer, dropping-first, dropping-step}
@@ -22,7 +22,7 @@ drop_children-requires g t c κs within = (
 pub loop-next-smaller : goal.loop-next-smaller
 loop-next-smaller g t c =
     let left = rw c.in-Some-seek_child_mut.is at c.seek_child_mut.follows.holds
-    (node (g.P.Partial.bytes c.child.inside.prefix) (stored_value c.drop_children.new.storage)
+    (node (g.P.Partial.bytes (stored_prefix c.drop_children.new.storage)) (stored_value c.drop_children.new.storage)
     (storage_capacity c.drop_children.new.storage)
     (as_children (child_entries c.drop_children.new.storage))) in
     rw c.in-Some.is (dropping-step _ _ _ _ _ _ _ _ _ _ (rw c.in-Some.is at c.loop-next.invariant)
@@ -31,7 +31,7 @@ loop-next-smaller g t c =
 pub loop-next-preserved : goal.loop-next-preserved
 loop-next-preserved g t c =
     let left = rw c.in-Some-seek_child_mut.is at c.seek_child_mut.follows.holds
-    (node (g.P.Partial.bytes c.child.inside.prefix) (stored_value c.drop_children.new.storage)
+    (node (g.P.Partial.bytes (stored_prefix c.drop_children.new.storage)) (stored_value c.drop_children.new.storage)
     (storage_capacity c.drop_children.new.storage)
     (as_children (child_entries c.drop_children.new.storage))) in
     (dropping-step _ _ _ _ _ _ _ _ _ _ (rw c.in-Some.is at c.loop-next.invariant)

@@ -1,5 +1,5 @@
 use Rattle.std.proofs.Common.{arith, ap, ◌∙◌, sym, refl}
-use Rattle.rart_trie.specs.storages.Stored.{child_entries, storage_capacity, stored_value}
+use Rattle.rart_trie.specs.storages.Stored.{child_entries, storage_capacity, stored_prefix, stored_value}
 use Rattle.rart_trie.specs.tries.TrieCode.{node_count}
 use Rattle.rart_trie.proofs.storages.ChildLemmas.{canonical-found, count-found}
 use Rattle.rart_trie.proofs.edits.InsertLemmas.{put-below, child-put_back}
@@ -16,13 +16,15 @@ returns-in_default-first g c = (
   (
     refl,
     λ w. let left = c.value_mut.follows.holds w in (
-      on_some_weaker c.value_mut.result (λ h. rw (← c.node.view_is, h.0, h.1, h.2)
+      on_some_weaker c.value_mut.result (λ h. rw (← c.node.view_is, h.0, h.1, h.2, h.3)
           (sym (trie_put-ended _ c.args.key.now _ w _ _ _ c.in-Some.ensures c.in_default-first.ensures.value))) left.0,
       if_none_weaker c.value_mut.result (λ h. same-node _ _ _ _ (child_entries c.node.inside.storage) _ h.0 h.1 h.2
+          (ap g.P.Partial.bytes h.3)
           ∙ c.node.view_is) left.1,
     ),
     let left = c.value_mut.follows.holds-at-none in
-        same-node _ _ _ _ (child_entries c.node.inside.storage) _ left.0 left.1 left.2 ∙ c.node.view_is,
+        same-node _ _ _ _ (child_entries c.node.inside.storage) _ left.0 left.1 left.2 (ap g.P.Partial.bytes left.3)
+        ∙ c.node.view_is,
   ),
   record {
     writes_back = tt;
@@ -32,7 +34,7 @@ returns-in_default-first g c = (
   },
 )
 
-follows : (g : Over) (c : In-Some-seek_child_mut g) → Follows (g.P.Partial.bytes c.node.inside.prefix)
+follows : (g : Over) (c : In-Some-seek_child_mut g) → Follows (g.P.Partial.bytes (stored_prefix c.node.inside.storage))
     c.args.key.now c.in-Some.rest.now (stored_value c.node.inside.storage) (storage_capacity c.node.inside.storage)
     c.in-Some-first.field-0.now
     c.in-Some-seek_child_mut.child.now (child_entries c.node.inside.storage)
@@ -57,14 +59,15 @@ returns-in-Some-seek_child_mut g c =
       (
         refl,
         λ w. let left = rw c.in-Some-seek_child_mut.is at c.seek_child_mut.follows.holds (c.lend.follows.lender w) in (
-          on_some_weaker c.lend.result (λ q. rw (← c.node.view_is, left.2) (put-below on w _ (c.lend.follows.lender w) _
+          on_some_weaker c.lend.result (λ q. rw (← c.node.view_is, left.2, left.3)
+              (put-below on w _ (c.lend.follows.lender w) _
               (q ∙ c.requires.put c.in-Some-seek_child_mut.child.now _ w) left.0 left.1)) (c.lend.follows.holds w).0,
           if_none_weaker c.lend.result (λ q. child-put_back _ _ _ _ _ _ (c.lend.follows.lender w) _ _ on.there q left.0
-              left.1 left.2 ∙ c.node.view_is) (c.lend.follows.holds w).1,
+              left.1 left.2 (ap g.P.Partial.bytes left.3) ∙ c.node.view_is) (c.lend.follows.holds w).1,
         ),
         let left = rw c.in-Some-seek_child_mut.is at c.seek_child_mut.follows.holds c.lend.follows.lender-at-none in
             child-put_back _ _ _ _ _ _ c.lend.follows.lender-at-none _ _ on.there c.lend.follows.holds-at-none left.0
-            left.1 left.2 ∙ c.node.view_is,
+            left.1 left.2 (ap g.P.Partial.bytes left.3) ∙ c.node.view_is,
       ),
       record {
         writes_back = tt;
@@ -76,7 +79,7 @@ returns-in-Some-seek_child_mut g c =
 pub returns-in-None : goal.returns-in-None
 returns-in-None g c =
     let left = c.seek_child_mut.follows.holds-at-none in (
-      (refl, λ w. (tt, refl), rw (left.0, left.1, left.2) c.node.view_is),
+      (refl, λ w. (tt, refl), rw (left.0, left.1, left.2, left.3) c.node.view_is),
       record {
         writes_back = tt;
         value = rw (← c.node.view_is) (sym (trie_lookup-no_child _ c.args.key.now _ _ _

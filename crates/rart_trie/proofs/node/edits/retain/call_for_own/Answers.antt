@@ -8,4 +8,4 @@ returns-in-Some g c =
     let was : stored_value c.args.storage.now ≡ Some c.in-Some.value.now = sym c.value_mut.ensures.value
     ∙ ap option_copied_mut c.in-Some.is in
     let left = (rw c.in-Some.is at c.value_mut.follows.holds c.f.new.arg3).0 in
-    record { calls = rw (was, left.2) (search (rules, of_calls)); same = (left.0, left.1, refl) }
+    record { calls = rw (was, left.2) (search (rules, of_calls)); same = (left.0, left.1, refl, left.3) }

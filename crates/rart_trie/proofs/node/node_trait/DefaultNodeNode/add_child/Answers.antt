@@ -18,7 +18,13 @@ add_within-requires-clause-absent g c = ap (child_at c.args.key) c.in-Ok.ensures
     (← c.self.view_is) at c.requires.absent
 
 pub returns-in-Ok-clause-ok : goal.returns-in-Ok-clause-ok
-returns-in-Ok-clause-ok g c = rw (← c.self.view_is, c.add_within.ensures.value_kept, c.in-Ok.ensures.value_kept)
+returns-in-Ok-clause-ok g c = rw (
+  ← c.self.view_is,
+  c.add_within.ensures.value_kept,
+  c.in-Ok.ensures.value_kept,
+  c.add_within.ensures.prefix_kept,
+  c.in-Ok.ensures.prefix_kept,
+)
     (with_child-is _ _ (storage_capacity c.self.inside.storage) _ c.args.key c.args.node
     (child_entries c.self.inside.storage) _
     (c.add_within.ensures.capacity ∙ c.in-Ok.ensures.capacity) (c.add_within.ensures.entries

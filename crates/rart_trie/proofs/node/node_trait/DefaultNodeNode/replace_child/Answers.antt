@@ -16,7 +16,7 @@ returns-clause-taken g c = elim c.match-seek_child_mut.branch [
 pub returns-clause-put : goal.returns-clause-put
 returns-clause-put g c = elim c.match-seek_child_mut.branch [
   | in-Some w ↦ let left = rw w.in-Some.is at c.seek_child_mut.follows.holds w.replace.new.dest in
-      rw (w.result-is, w.self-inside-is, ← c.self.view_is, left.2)
+      rw (w.result-is, w.self-inside-is, ← c.self.view_is, left.2, left.3)
       (with_child_replaced-is _ _ (storage_capacity c.self.inside.storage) _ c.args.key c.args.node
       (child_entries c.self.inside.storage) _
       left.0 (left.1 ∙ ap (λ t. replaced_at c.args.key t (child_entries c.self.inside.storage))
@@ -31,6 +31,6 @@ returns-clause-absent g c = elim c.match-seek_child_mut.branch [
       rw (w.result-is, w.self-inside-is) (
         rw (← c.self.view_is)
             (child_of-entries c.args.key (child_entries c.self.inside.storage) ∙ sym w.in-None.ensures.value),
-        rw (left.0, left.1, left.2) c.self.view_is,
+        rw (left.0, left.1, left.2, left.3) c.self.view_is,
       )
 ]

@@ -23,8 +23,8 @@ use contract.Lifetimes.{AllOutlive}
 use contract.Monad.{fact, fact_i}
 use contract.Running.{Running, tables, tables_of}
 use types.Logic.{Logic}
-use types.Kit.{‵, raw, ◌⊛◌, given, some, later, Item, ◌$◌, ◌∵◌, !, qed, by, done, move, drop, use0, use1, use2, split}
-use types.Kit.{split3, frame, join, learn, pick, await, suffices, group}
+use types.Kit.{‵, raw, ◌⊛◌, given, some, later, mean, Item, ◌$◌, ◌∵◌, !, qed, by, done, move, drop, use0, use1, use2}
+use types.Kit.{split, split3, frame, join, learn, pick, await, suffices, group}
 use types.Run.{enter, addr, stop, no_more, and_then, returns}
 use types.ByLocal.{alloc_all, pass_all, free_all, look_at, get, through, sets, lands_as}
 use denote.Builtin.{u8, RefMutOf}
@@ -63,7 +63,7 @@ use Rattle.rart_trie.specs.contracts.node.storage.Storage as storage
 use Rattle.rart_trie.specs.contracts.node.storage.Storage.seek_child_mut as lent
 use Rattle.rart_trie.specs.edits.ChildChanges.{with_child_replaced}
 use Rattle.rart_trie.specs.edits.Lends.{lends_storage}
-use Rattle.rart_trie.specs.edits.NodeEdits.{with_storage}
+use Rattle.rart_trie.specs.edits.NodeEdits.{stored_node}
 use Rattle.rart_trie.specs.storages.Lends.{lends_child}
 use Rattle.rart_trie.specs.storages.Stored.{child_entries}
 use Rattle.rart_trie.proofs.edits.ChildChangeLemmas.{child-stored, storage-child_replaced, storage-same}
@@ -90,7 +90,7 @@ module _ (P V : RattleType) (g : declared_partial.Ghosts P.Denot) (d dd : Dict) 
   Row = node.the_row (param 0 P) (param 1 V) g
 
   abbrev Stored : RattleType
-  Stored = storage.the_row (param 1 V) Row
+  Stored = storage.the_row (param 0 P) (param 1 V) Row
 
   -- a node as the call passes it for a type parameter
   abbrev passed : Ty
@@ -138,7 +138,7 @@ module _ {M : Type 1} (𝓤 : Ura M) (𝓛 : Logic 𝓤) (𝓜 : Model 𝓤 𝓛
   Opens = triple_of 𝓛 (opened.signature P V g d dd) (opened.spec P V g d dd 𝓛 𝓜.mem 𝓡.returns)
 
   abbrev Lends : Contract 𝓤
-  Lends = triple_of 𝓛 (lent.signature V Child) (lent.spec V Child 𝓛 𝓜.mem 𝓡.returns)
+  Lends = triple_of 𝓛 (lent.signature P V Child) (lent.spec P V Child 𝓛 𝓜.mem 𝓡.returns)
 
   module _ (κ κP κV : Lft) (q qP qV : Share) (bounds : AllOutlive 3 ended'.signature.outlives (κ, (κP, (κV, tt))))
       (self : MutBor Node.Denot) (b : ℕ) (fits : b < 2 ^ 8) (inP : κP ⊑ P.lives) (inV : κV ⊑ V.lives) where
@@ -152,9 +152,9 @@ module _ {M : Type 1} (𝓤 : Ura M) (𝓛 : Logic 𝓤) (𝓜 : Model 𝓤 𝓛
     abbrev z : MutBor Storage.Denot → Val → Lends.Ghost
     z s v = (
       (
-        (κ, (κV, (κ, tt))),
-        (Share.left q, (qV, (Share.right q, tt))),
-        (bounds.1.0, (⊑_refl κ, tt)),
+        (κ, (κP, (κV, (κ, tt)))),
+        (Share.left q, (qP, (qV, (Share.right q, tt)))),
+        (bounds.0, (bounds.1.0, (⊑_refl κ, tt))),
         (s, (b, tt)),
         (v ∷ [], (vint w8 b ∷ [], tt)),
       ),
@@ -190,24 +190,69 @@ module _ {M : Type 1} (𝓤 : Ura M) (𝓛 : Logic 𝓤) (𝓜 : Model 𝓤 𝓛
     abbrev Loan : Result.Denot → Fml
     Loan r = LendsSo Node Node self r (λ n c. OnSome r (n ≡ with_child_replaced b c self.now)) (λ n. n ≡ self.now)
 
+    -- the tokens, as the walk holds them between its calls
+    abbrev Tokens : Item 𝓤
+    Tokens = ‵ (flft κ q) ⊛ ‵ (flft κP qP) ⊛ ‵ (flft κV qV) ⊛ ‵ ftrue
+
     -- what the calls return: the tokens and a reference, and beside them what the contract says
     abbrev Open : Val → MutBor Storage.Denot → Item 𝓤
-    Open v s = ((‵ (flft κ q) ⊛ ‵ (flft κP qP) ⊛ ‵ (flft κV qV) ⊛ ‵ ftrue) ⊛ ‵ ((Ref Storage).own_val s (v ∷ [])))
+    Open v s = (Tokens ⊛ ‵ ((Ref Storage).own_val s (v ∷ [])))
         ⊛ some (λ (ws : Lasts (opened.ended P V g d dd) y.0.0 y.0.3). ‵ (lasts (opened.ended P V g d dd) y.0.0 y.0.3 ws)
-        ⊛ (‵ (lends_storage (param 0 P) (param 1 V) g self s) ⊛ raw (fact 𝓤 (with_storage self.now s.now ≡ self.now))))
+        ⊛ (‵ (lends_storage (param 0 P) (param 1 V) g self s) ⊛ raw (fact 𝓤 (stored_node g.bytes s.now ≡ self.now))))
+
+    abbrev Said : MutBor Storage.Denot → Result.Denot → Item 𝓤
+    Said s r = ‵ (lends_child (param 0 P) (param 1 V) Node s b r)
+        ⊛ raw (fact 𝓤 (option_copied_mut r ≡ child_at b (child_entries s.now)))
 
     abbrev Lent : MutBor Storage.Denot → Val → Val → Result.Denot → Item 𝓤
-    Lent s v v' r = let x = (z s v).0 in let found = option_copied_mut r ≡ child_at b (child_entries s.now) in
-        ((‵ (flft κ (Share.left q)) ⊛ ‵ (flft κV qV) ⊛ ‵ (flft κ (Share.right q)) ⊛ ‵ ftrue)
-        ⊛ ‵ (Result.own_val r (v' ∷ []))) ⊛ some (λ (ws : Lasts (lent.ended V Child) x.0 x.3).
-        ‵ (lasts (lent.ended V Child) x.0 x.3 ws) ⊛ (‵ (lends_child (param 1 V) Node s b r) ⊛ raw (fact 𝓤 found)))
+    Lent s v v' r = let x = (z s v).0 in
+        ((‵ (flft κ (Share.left q)) ⊛ ‵ (flft κP qP) ⊛ ‵ (flft κV qV) ⊛ ‵ (flft κ (Share.right q)) ⊛ ‵ ftrue)
+        ⊛ ‵ (Result.own_val r (v' ∷ []))) ⊛ some (λ (ws : Lasts (lent.ended P V Child) x.0 x.3).
+        ‵ (lasts (lent.ended P V Child) x.0 x.3 ws) ⊛ Said s r)
+
+    -- what the storage's call requires: the token of the loan is cut in two
+    asks : (s : MutBor Storage.Denot) (v : Val) → ent 𝓤 (mean 𝓛 (‵ ((Ref Storage).own_val s (v ∷ []))
+        ⊛ ‵ (u8.own_val b (vint w8 b ∷ [])) ⊛ Tokens)) (Lends.pre (z s v))
+    asks s v =
+        qed 𝓛 (‵ ((Ref Storage).own_val s (v ∷ [])) ∷ ‵ (u8.own_val b (vint w8 b ∷ [])) ∷ ‵ (flft κ q) ∷ ‵ (flft κP qP)
+        ∷ (‵ (flft κV qV) ⊛ ‵ ftrue) ∷ []) ∵
+        move ! (2 ∷ []) $ use1 𝓛 (‵ (flft κ (Share.left q)) ⊛ ‵ (flft κ (Share.right q)))
+        (𝓛.lfts.lft_cut κ q (Share.left q) (Share.right q) (halves q)) $ split ! $
+        -- [the loan's token in two; the storage; the byte; P's; V's and nothing]
+        move ! (3 ∷ []) $ nothing ! $ move ! (1 ∷ 0 ∷ []) $ join ! $ move ! (3 ∷ 0 ∷ []) $ join ! $
+        move ! (4 ∷ []) $ split ! $ move ! (4 ∷ 1 ∷ []) $ join ! $ move ! (1 ∷ 0 ∷ []) $ join ! $
+        move ! (3 ∷ 0 ∷ []) $ join ! $ move ! (2 ∷ 0 ∷ []) $ join ! $ join ! $
+        nothing ! $ use0 𝓛 (raw (fact 𝓤 (κ ⊑ Node.lives))) (fact_i 𝓤 (κ ⊑ Node.lives) (emp 𝓤) within) $ join ! $
+        use0 𝓛 (raw (fact 𝓤 (κV ⊑ V.lives))) (fact_i 𝓤 (κV ⊑ V.lives) (emp 𝓤) inV) $ join ! $
+        use0 𝓛 (raw (fact 𝓤 (κP ⊑ P.lives))) (fact_i 𝓤 (κP ⊑ P.lives) (emp 𝓤) inP) $ join ! $
+        move ! (1 ∷ 0 ∷ []) $ by ! (id⊢ 𝓤 _)
+
+    -- what it returns: the token is whole again
+    rejoins : (s : MutBor Storage.Denot) (v v' : Val) (r : Result.Denot) → ent 𝓤 (mean 𝓛 (Lent s v v' r))
+        (mean 𝓛 ((Tokens ⊛ ‵ (Result.own_val r (v' ∷ []))) ⊛ Said s r))
+    rejoins s v v' r =
+        qed 𝓛 (Lent s v v' r ∷ []) ∵ split ! $ split ! $ split3 ! $ move ! (2 ∷ []) $ split3 ! $ move ! (3 ∷ 1 ∷ []) $
+        use2 𝓛 (‵ (flft κ q)) (𝓛.lfts.lft_glue κ q (Share.left q) (Share.right q) (halves q)) $
+        -- [the loan's token; V's; nothing; P's; the result; what is said of it]
+        move ! (1 ∷ 2 ∷ []) $ join ! $ move ! (2 ∷ 0 ∷ []) $ join ! $ move ! (1 ∷ 0 ∷ []) $ join ! $
+        move ! (2 ∷ []) $ pick ! (λ ws. split ! $ drop ! $ move ! (1 ∷ 2 ∷ []) $ join ! $ by ! (id⊢ 𝓤 _))
+
+    -- the result is the child, and the walk ends
+    ends : (s : MutBor Storage.Denot) (v' : Val) (r : Result.Denot) → stored_node g.bytes s.now ≡ self.now
+        → option_copied_mut r ≡ child_at b (child_entries s.now)
+        → ent 𝓤 (mean 𝓛 (‵ (Result.own_val r (v' ∷ [])) ⊛ ‵ (Loan r) ⊛ Tokens)) (Post v')
+    ends s v' r is found =
+        qed 𝓛 (‵ (Result.own_val r (v' ∷ [])) ∷ ‵ (Loan r) ∷ Tokens ∷ []) ∵
+        suffices ! _ (ends_at 𝓛 ended' stayed' clauses bound v' r (tt, (tt, tt)) (tt, (tt, tt))) $
+        nothing ! $ nothing ! $ join ! $ nothing ! $ join ! $ move ! (3 ∷ []) $ group ! 3 $ frame ! $
+        says ! (same-option (option_copied_mut r) ∙ found ∙ child-stored g.bytes self.now s.now is b) $ done !
 
     walk : ent 𝓤 (on_entry 𝓛 ended'.signature bound.0.0 bound.0.1 bound.0.3 bound.0.4)
         (WpFn 𝓤 𝓛.H 𝓣.C 𝓣.Λ body (vptr self.ref_ptr.0 self.ref_ptr.1 ∷ vint w8 b ∷ []) Post)
     unfolding tables_of
     walk =
-        qed 𝓛 (((‵ (flft κ q) ⊛ ‵ (flft κP qP) ⊛ ‵ (flft κV qV) ⊛ ‵ ftrue) ⊛ ‵ ((Ref Node).own_val self (mut_vals self))
-        ⊛ ‵ (u8.own_val b (vint w8 b ∷ [])) ⊛ ‵ ftrue) ∷ []) ∵
+        qed 𝓛 ((Tokens ⊛ ‵ ((Ref Node).own_val self (mut_vals self)) ⊛ ‵ (u8.own_val b (vint w8 b ∷ [])) ⊛ ‵ ftrue)
+        ∷ []) ∵
         split ! $ move ! (1 ∷ []) $ split3 ! $
         -- [self; the byte; nothing; the tokens]
         move ! (0 ∷ 2 ∷ []) $ join ! $ move ! (2 ∷ 0 ∷ []) $ join ! $
@@ -222,44 +267,28 @@ module _ {M : Type 1} (𝓤 : Ura M) (𝓛 : Logic 𝓤) (𝓜 : Model 𝓤 𝓛
         (met_opened.met 𝓤 𝓛 𝓜 𝓡 (code.calls-rart_trie::node::DefaultNode::storage_mut 𝓡.env wired) P V LP LV g d dd met
         drops) y
         (and_then ! (get ! refl) (no_more !)) (λ v.
-        use1 𝓛 (later (some (Open v))) (id⊢ 𝓤 _) $ await ! tt $ pick ! (λ s. split ! $ split ! $ split3 ! $
-        use1 𝓛 (‵ (flft κ (Share.left q)) ⊛ ‵ (flft κ (Share.right q)))
-        (𝓛.lfts.lft_cut κ q (Share.left q) (Share.right q) (halves q)) $ split ! $
-        -- [the loan's token in two; P's; V's and nothing; the storage; what is said of it; the byte]
-        move ! (5 ∷ []) $ pick ! (λ ws. split ! $ drop ! $ split ! $ move ! (1 ∷ []) $ heard ! _ (λ is.
-        move ! (5 ∷ []) $
-        peeks ! (Ref Storage) (Is (Ref Storage)) (shows 𝓛 (Ref Storage)) s (v ∷ []) (λ fine.
+        use1 𝓛 (later (some (Open v))) (id⊢ 𝓤 _) $ await ! tt $ pick ! (λ s. split ! $ split ! $
+        -- [the tokens; the storage; what is said of it; the byte]
+        move ! (2 ∷ []) $ pick ! (λ ws. split ! $ drop ! $ split ! $ move ! (1 ∷ []) $ heard ! _ (λ is.
+        move ! (2 ∷ []) $ peeks ! (Ref Storage) (Is (Ref Storage)) (shows 𝓛 (Ref Storage)) s (v ∷ []) (λ fine.
         lands_as ! refl refl ((mut_Lawful 𝓛 (named 0) κ Storage).typed s (v ∷ []) fine).0 $
-        -- [the storage; its loan; the loan's token in two; P's; V's and nothing; the byte]
-        move ! (6 ∷ []) $ nothing ! $ move ! (1 ∷ 0 ∷ []) $ join ! $ move ! (1 ∷ 0 ∷ []) $ join ! $
-        move ! (5 ∷ []) $ split ! $ move ! (5 ∷ 1 ∷ []) $ join ! $ move ! (1 ∷ 0 ∷ []) $ join ! $
-        move ! (3 ∷ 0 ∷ []) $ join ! $ join ! $
-        nothing ! $ use0 𝓛 (raw (fact 𝓤 (κ ⊑ Node.lives))) (fact_i 𝓤 (κ ⊑ Node.lives) (emp 𝓤) within) $ join ! $
-        use0 𝓛 (raw (fact 𝓤 (κV ⊑ V.lives))) (fact_i 𝓤 (κV ⊑ V.lives) (emp 𝓤) inV) $ join ! $
-        move ! (1 ∷ 0 ∷ []) $ use2 𝓛 (raw (Lends.pre (z s v))) (id⊢ 𝓤 _) $
-        -- [what the storage's call requires; its loan; P's token]
+        -- [the storage; its loan; the tokens; the byte]
+        move ! (0 ∷ 3 ∷ 2 ∷ []) $ group ! 3 $ use1 𝓛 (raw (Lends.pre (z s v))) (asks s v) $
         calls_at ! (framed 𝓤 𝓛.H 𝓜 (tables 𝓤 𝓛.H 𝓜 𝓡 𝓡.env)) Lends
-        (met_lent.met 𝓤 𝓛 𝓜 𝓡 (code.calls-rart_trie::node::storage::Storage::seek_child_mut 𝓡.env wired) V Child LV
+        (met_lent.met 𝓤 𝓛 𝓜 𝓡 (code.calls-rart_trie::node::storage::Storage::seek_child_mut 𝓡.env wired) P V Child LP LV
         child_laws) (z s v)
         (and_then ! (get ! refl) (and_then ! (get ! refl) (no_more !))) (λ v'.
-        use1 𝓛 (later (some (Lent s v v'))) (id⊢ 𝓤 _) $ await ! tt $ pick ! (λ r. split ! $ split ! $ split3 ! $
-        move ! (2 ∷ []) $ split ! $ move ! (2 ∷ 0 ∷ []) $
-        use2 𝓛 (‵ (flft κ q)) (𝓛.lfts.lft_glue κ q (Share.left q) (Share.right q) (halves q)) $
-        -- [the loan's token; nothing; V's token; the result; what is said of it; the storage's loan; P's token]
-        move ! (4 ∷ []) $ pick ! (λ ws'. split ! $ drop ! $ split ! $ move ! (1 ∷ []) $ heard ! _ (λ found.
-        move ! (5 ∷ 0 ∷ []) $ use2 𝓛 (‵ (Loan r)) (lent_through 𝓛 Node Storage Node (with_storage self.now)
+        use1 𝓛 (later (some (Lent s v v'))) (id⊢ 𝓤 _) $ await ! tt $ pick ! (λ r.
+        use1 𝓛 ((Tokens ⊛ ‵ (Result.own_val r (v' ∷ []))) ⊛ Said s r) (rejoins s v v' r) $ split ! $ split ! $
+        -- [the tokens; the result; what is said of it; the storage's loan]
+        move ! (2 ∷ []) $ split ! $ move ! (1 ∷ []) $ heard ! _ (λ found.
+        move ! (3 ∷ 0 ∷ []) $ use2 𝓛 (‵ (Loan r)) (lent_through 𝓛 Node Storage Node (stored_node g.bytes)
         self.ghost_name s.ghost_name (ghost_name_of r) _ _ _ _
-        (λ c t h. on_some_weaker r (storage-child_replaced self.now s.now is b c t) h)
-        (storage-same self.now s.now is)) $
-        move ! (4 ∷ []) $ peeks ! Result (Is Result) (shows 𝓛 Result) r (v' ∷ []) (λ fine'.
+        (λ c t h. on_some_weaker r (storage-child_replaced g.bytes self.now s.now is b c t) h)
+        (storage-same g.bytes self.now s.now is)) $
+        move ! (2 ∷ []) $ peeks ! Result (Is Result) (shows 𝓛 Result) r (v' ∷ []) (λ fine'.
         lands_as ! refl refl (lawful.typed r (v' ∷ []) fine').0 $
-        returns ! (look_at ! 0 refl) $ free_all ! refl $
-        -- [the result; the child's loan; the loan's token; nothing; V's token; P's token]
-        suffices ! _ (ends_at 𝓛 ended' stayed' clauses bound v' r (tt, (tt, tt)) (tt, (tt, tt))) $
-        nothing ! $ nothing ! $ join ! $ nothing ! $ join ! $
-        move ! (5 ∷ 4 ∷ []) $ join ! $ move ! (5 ∷ 0 ∷ []) $ join ! $ move ! (4 ∷ 0 ∷ []) $ join ! $
-        group ! 3 $ frame ! $ says ! (same-option (option_copied_mut r) ∙ found ∙ child-stored self.now s.now is b) $
-        done !)))))))))))
+        returns ! (look_at ! 0 refl) $ free_all ! refl $ by ! (ends s v' r is found)))))))))))
 
   goes : Meets 𝓛 ended'.signature (WpFn 𝓤 𝓛.H 𝓣.C 𝓣.Λ body) (closing 𝓛 ended' clauses)
   goes =

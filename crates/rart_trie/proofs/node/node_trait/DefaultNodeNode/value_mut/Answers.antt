@@ -12,9 +12,10 @@ returns g c = (
     refl,
     λ w. on_some_weaker c.value_mut.result (λ h. same-node _ (Some w) _ _ (child_entries c.self.inside.storage) _ h.0
         h.1
-        h.2 ∙ ap (with_value w) c.self.view_is) (c.value_mut.follows.holds w).0,
+        h.2 (ap g.P.Partial.bytes h.3) ∙ ap (with_value w) c.self.view_is) (c.value_mut.follows.holds w).0,
     let left = c.value_mut.follows.holds-at-none in
-        same-node _ _ _ _ (child_entries c.self.inside.storage) _ left.0 left.1 left.2 ∙ c.self.view_is,
+        same-node _ _ _ _ (child_entries c.self.inside.storage) _ left.0 left.1 left.2 (ap g.P.Partial.bytes left.3)
+        ∙ c.self.view_is,
   ),
   record { writes_back = tt; value = c.value_mut.ensures.value ∙ ap value_of c.self.view_is },
 )
