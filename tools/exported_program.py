@@ -3,8 +3,8 @@
 
 usage: exported_program.py [PASSED FAILED]
 
-The program is that of crates/rart_first, in a crate of another name that lists `rart` alone. Then come calls of ./export
-that it must refuse, each with its status and its line on standard error.
+The program is that of crates/rart_first, in a crate of another name that lists `rart` alone. Then come calls of
+./export that it must refuse, each with its status and its line on standard error.
 
 PASSED and FAILED are the counts of the step before, 0 if not given. The last line adds to them.
 """

@@ -48,7 +48,8 @@ def draw_panel(top, title, names, rows, day):
     """Returns the elements of one panel, whose upper border is at `top`."""
     right = LEFT + GROUP * len(names)
     y_of = lambda ratio: top + HEIGHT * (1 - height_of(ratio))
-    made = [f'<text x="{LEFT}" y="{top - 12}" class="title">CPU time over that of {title}, {day} (lower is faster)</text>']
+    words = f"CPU time over that of {title}, {day} (lower is faster)"
+    made = [f'<text x="{LEFT}" y="{top - 12}" class="title">{words}</text>']
     for power in range(round(math.log2(LEAST)), round(math.log2(MOST)) + 1):
         ratio = 2.0**power
         label = f"1/{2 ** -power}" if power < 0 else f"{2 ** power}"
@@ -77,7 +78,8 @@ def draw(names, ratios, day):
     width = LEFT + GROUP * len(names) + 12
     step = TOP_GAP + HEIGHT + LABELS
     made = [
-        f'<svg xmlns="http://www.w3.org/2000/svg" viewBox="0 0 {width} {step * len(PANELS) + 30}" font-family="sans-serif">',
+        '<svg xmlns="http://www.w3.org/2000/svg" '
+        f'viewBox="0 0 {width} {step * len(PANELS) + 30}" font-family="sans-serif">',
         "<style>.title{font-size:14px;font-weight:bold}.scale{font-size:11px;text-anchor:end}"
         ".name{font-size:11px;text-anchor:end}.beyond{font-size:11px;text-anchor:middle}"
         ".grid{stroke:#ddd}.one{stroke:#000;stroke-width:1.5}.key{font-size:12px}</style>",

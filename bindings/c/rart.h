@@ -1,8 +1,8 @@
 /* The proved map for C. Written by bindings/generate from crates/rart_c/src: change that, and run it again.
  *
  * A map is a struct of one pointer. Zeroed, as by `rart32 map = {0};`, it is empty. Free it by `rart32_free` or
- * `rart128_free`. A table of networks is such a struct too, freed by `rart_net4_free` or `rart_net6_free`. An address is
- * its bytes in network order, and a length that is no `uint8_t` must be tested before the call: C would cut it.
+ * `rart128_free`. A table of networks is such a struct too, freed by `rart_net4_free` or `rart_net6_free`. An address
+ * is its bytes in network order, and a length that is no `uint8_t` must be tested before the call: C would cut it.
  *
  * A function that returns a `bool` returns true if there is an answer. A status of success is `RART_DONE`, which is 0:
  * a network is stored if `rart_net4_get(..) == RART_DONE`, and `RART_ABSENT` says that it isn't.

@@ -1,5 +1,6 @@
-/* Calls each function of rart.h. It ends with 0, or stops at the first answer that is wrong. The linker's option `--wrap`
- * leads the library's calls of malloc, realloc and free to the functions below, which count blocks and refuse requests.
+/* Calls each function of rart.h. It ends with 0, or stops at the first answer that is wrong. The linker's option
+ * `--wrap` leads the library's calls of malloc, realloc and free to the functions below, which count blocks and refuse
+ * requests.
  */
 #include "rart.h"
 
@@ -137,9 +138,11 @@ static void test_batches(void) {
   bool more = false;
   CHECK(rart32_range(&map, RART_UNBOUNDED, NULL, 0, RART_UNBOUNDED, NULL, 0, out, 2, &written, &more) == RART_DONE);
   CHECK(written == 2 && more && has_pair(&out[0], "cat", 1) && has_pair(&out[1], "catalog", 2));
-  CHECK(rart32_range(&map, RART_EXCLUDED, BYTES("catalog"), RART_UNBOUNDED, NULL, 0, out, 2, &written, &more) == RART_DONE);
+  CHECK(rart32_range(&map, RART_EXCLUDED, BYTES("catalog"), RART_UNBOUNDED, NULL, 0, out, 2, &written, &more) ==
+        RART_DONE);
   CHECK(written == 1 && !more && has_pair(&out[0], "dog", 3));
-  CHECK(rart32_range(&map, RART_INCLUDED, BYTES("cat"), RART_INCLUDED, BYTES("cat"), out, 3, &written, &more) == RART_DONE);
+  CHECK(rart32_range(&map, RART_INCLUDED, BYTES("cat"), RART_INCLUDED, BYTES("cat"), out, 3, &written, &more) ==
+        RART_DONE);
   CHECK(written == 1 && !more && has_pair(&out[0], "cat", 1));
   CHECK(rart32_range_descending(&map, RART_UNBOUNDED, NULL, 0, RART_EXCLUDED, BYTES("dog"), out, 3, &written, &more) ==
         RART_DONE);
@@ -320,7 +323,8 @@ static void test_refusals(void) {
   size_t number = 77;
   bool more = true;
   granted = 0;
-  CHECK(rart32_range(&map, RART_UNBOUNDED, NULL, 0, RART_UNBOUNDED, NULL, 0, &out, 1, &number, &more) == RART_NO_MEMORY);
+  CHECK(rart32_range(&map, RART_UNBOUNDED, NULL, 0, RART_UNBOUNDED, NULL, 0, &out, 1, &number, &more) ==
+        RART_NO_MEMORY);
   CHECK(rart32_load_sorted(&map, &pair, 1, &number) == RART_NO_MEMORY && number == 77 && more);
   CHECK(rart32_stats(&map, &stats) == RART_NO_MEMORY && stats.leaves == 77);
   granted = SIZE_MAX;

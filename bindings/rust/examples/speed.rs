@@ -1,5 +1,5 @@
-//! Times calls of `U64Map` beside std's `BTreeMap<Vec<u8>, u64>`, and prints a table: nanoseconds of processor time, the
-//! least of five runs. `cargo run --release --example speed` has 200,000 keys of each kind.
+//! Times calls of `U64Map` beside std's `BTreeMap<Vec<u8>, u64>`, and prints a table: nanoseconds of processor time,
+//! the least of five runs. `cargo run --release --example speed` has 200,000 keys of each kind.
 
 use rart_proved::{U64Map, W32};
 use std::collections::BTreeMap;
@@ -75,7 +75,8 @@ fn time_of(kind: &str) {
     row(kind, "get, stored", hit, Some(least(n, || stored.iter().for_each(|key| _ = black_box(model.get(key))))));
     let miss = least(n, || missed.iter().for_each(|key| _ = black_box(map.get(key))));
     row(kind, "get, absent", miss, Some(least(n, || missed.iter().for_each(|key| _ = black_box(model.get(key))))));
-    row(kind, "longest_prefix", least(n, || stored.iter().for_each(|key| _ = black_box(map.longest_prefix(key)))), None);
+    let longest = least(n, || stored.iter().for_each(|key| _ = black_box(map.longest_prefix(key))));
+    row(kind, "longest_prefix", longest, None);
     let walk = least(map.len(), || _ = black_box(map.iter().map(|(_, value)| value).fold(0, u64::wrapping_add)));
     let std_walk = least(map.len(), || _ = black_box(model.values().copied().fold(0, u64::wrapping_add)));
     row(kind, "iter, a pair", walk, Some(std_walk));

@@ -49,7 +49,8 @@ Inserts width key value old new was is Done = (length key ≤ width) × (lookup 
     × (new ≡ put key value old) × (is ≡ was)
 Inserts width key value old new was is Otherwise = (length key ≤ width) × (lookup key old ≡ Some is)
     × (new ≡ put key value old)
-Inserts width key value old new was is NoMemory = (length key ≤ width) × MayLackMemory old key × IsUnchanged old new was is
+Inserts width key value old new was is NoMemory = (length key ≤ width) × MayLackMemory old key
+    × IsUnchanged old new was is
 Inserts width key value old new was is Full = (length key ≤ width) × (lookup key old ≡ None) × (length old ≡ MAX_PAIRS)
     × IsUnchanged old new was is
 Inserts width key value old new was is KeyTooLong = (width < length key) × IsUnchanged old new was is
@@ -60,7 +61,8 @@ abbrev pub InsertsNew : ℕ → List ℕ → ℕ → List (List ℕ × ℕ) → 
 InsertsNew width key value old new was is Done = (length key ≤ width) × (lookup key old ≡ None)
     × (length old ≢ MAX_PAIRS) × (new ≡ put key value old) × (is ≡ was)
 InsertsNew width key value old new was is Otherwise = (length key ≤ width) × (lookup key old ≡ Some is) × (new ≡ old)
-InsertsNew width key value old new was is NoMemory = (length key ≤ width) × MayLackMemory old key × IsUnchanged old new was is
+InsertsNew width key value old new was is NoMemory = (length key ≤ width) × MayLackMemory old key
+    × IsUnchanged old new was is
 InsertsNew width key value old new was is Full = (length key ≤ width) × (lookup key old ≡ None)
     × (length old ≡ MAX_PAIRS) × IsUnchanged old new was is
 InsertsNew width key value old new was is KeyTooLong = (width < length key) × IsUnchanged old new was is

@@ -12,3 +12,4 @@ pub mod NearestLemmas
 pub mod NearestPlaces
 pub mod PotentialLemmas
 pub mod RangeCuts
+pub mod SkippedChildren

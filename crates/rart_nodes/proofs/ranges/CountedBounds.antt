@@ -62,7 +62,7 @@ module _ {V : Type 0} where
   all-counted a b es h = let n = none-of (is_bounded a) (is_bounded b) h in
       rw (no-bytes a n.0, no-bytes b n.1) (all-in es)
 
-  count-append : (a b : Option (Bound (List ℕ))) (xs ys : List (List ℕ × V))
+  pub count-append : (a b : Option (Bound (List ℕ))) (xs ys : List (List ℕ × V))
       → count_in a b (xs ++ ys) ≡ count_in a b xs + count_in a b ys
   count-append a b xs ys = ap length (filter-append (λ e. is_in_both a b e.0) xs ys)
       ∙ length-append (filter (λ e. is_in_both a b e.0) xs) (filter (λ e. is_in_both a b e.0) ys)

@@ -173,7 +173,8 @@ module _ {V : Type 0} where
   toward-visits First h s t v b n r c w = step-visits _ _ _ h s t v b n r c w
   toward-visits Last h s t v b n r c w = step-visits _ _ _ h s t v b n r c w
 
-  -- A descent to s over the pairs es is at the node t, where r remains of s. The nearest pair that it passed is `found`.
+  -- A descent to s over the pairs es is at the node t, where r remains of s. The nearest pair that it passed is
+  -- `found`.
   pub record SeeksAt (e : End) (h : Bool) (s : List ℕ) (es : List (List ℕ × V)) (r : List ℕ) (t : Trie V)
       (found : Option (List ℕ × V)) : Type 0 where
     pub passed : List ℕ
@@ -218,15 +219,17 @@ module _ {V : Type 0} where
 
       on : (n : Option (Trie V)) → StepsToward e h r t v b n r1 → Seeks e h s es r1 n found1
       on None l = f ∙ ap (λ z. option_or z found) (kept ∙ after-twice w.passed (prefix_of t) beside
-          ∙ ap (after_bytes w.passed) (ap (λ z. after_bytes (prefix_of t) (option_or z beside)) (sym (nearest-nil e h r1))
+          ∙ ap (after_bytes w.passed)
+          (ap (λ z. after_bytes (prefix_of t) (option_or z beside)) (sym (nearest-nil e h r1))
           ∙ sym (nearest-step e h r t v b None r1 c l))) ∙ w.still
       on (Some u) l =
           let next = nearest e h r1 (pairs_of u) in
           let q = w.passed ++ prefix_of t in
           record {
             passed = q;
-            bound = w.bound ∙ ap (λ z. w.passed ++ z) (sym (strip_prefix-is (prefix_of t) r r1 (step-strip e h r t u v b r1
-                l))) ∙ sym (append_assoc w.passed (prefix_of t) r1);
+            bound = w.bound ∙ ap (λ z. w.passed ++ z)
+                (sym (strip_prefix-is (prefix_of t) r r1 (step-strip e h r t u v b r1 l)))
+                ∙ sym (append_assoc w.passed (prefix_of t) r1);
             still = ap (option_or (after_bytes q next)) (f ∙ ap (λ z. option_or z found) kept)
                 ∙ sym (or-or (after_bytes q next) (after_bytes q beside) found)
                 ∙ ap (λ z. option_or z found) (sym (map-or (λ x. (q ++ x.0, x.1)) next beside)

@@ -64,7 +64,8 @@ module _ {V : Type 0} where
       → length q ≤ length (prefix_of t)
   longest-root (node p (Some v) n cs) w q h = omega (arith, begins-short q (p ++ []) h.0, length-append p [])
   longest-root (node p None n no_children) w q h = ⊎_elim (λ s. absurd (let e = s in cc)) (λ s. absurd s) w.0
-  longest-root (node p None n (child b t no_children)) w q h = ⊎_elim (λ s. absurd (let e = s in cc)) (λ s. absurd s) w.0
+  longest-root (node p None n (child b t no_children)) w q h
+      = ⊎_elim (λ s. absurd (let e = s in cc)) (λ s. absurd s) w.0
   longest-root (node p None n (child b t (child c u cs))) w q h =
       let both = rw (
         prefix-append p (pairs_of t) (pairs_of u ++ children_pairs cs),

@@ -1,6 +1,6 @@
--- A bound for the keys that begin with some bytes, by the bytes that follow: `Unbounded` if all of these keys are within
--- it, and `None` if none of them is.
-use Rattle.std.specs.Prelude.{ℕ, Bool, true, false, List, [], ◌∷◌, Option, Some, None}
+-- A bound for the keys that begin with some bytes, by the bytes that follow: `Unbounded` if it holds all of these keys,
+-- and `None` if it holds none of them.
+use Rattle.std.specs.Prelude.{ℕ, zero, suc, Bool, true, false, List, [], ◌∷◌, Option, Some, None}
 use Rattle.std.specs.Ordering.{nat_cmp, match_ordering}
 use Rattle.std.specs.Cmp.Lexicographic.{slice_cmp}
 use Rattle.std.specs.declared.cmp.Ordering.{Ordering}
@@ -65,6 +65,12 @@ abbrev pub bound_at : End → ℕ → Bound (List ℕ) → Option (Bound (List �
 bound_at e c Unbounded = Some Unbounded
 bound_at e c (Included s) = bound_by e (Included s) (first_cmp c s)
 bound_at e c (Excluded s) = bound_by e (Excluded s) (first_cmp c s)
+
+-- the byte below the first of some bytes, if there is one
+abbrev pub byte_below : List ℕ → Option ℕ
+byte_below [] = None
+byte_below (zero ∷ s) = None
+byte_below (suc b ∷ s) = Some b
 
 -- the nodes that a descent to the bytes of a bound enters, 0 for none
 abbrev pub path_count : {V : Type 0} → Bound (List ℕ) → Trie V → ℕ

@@ -25,7 +25,7 @@ use std::alloc::{AllocError, Global};
 pub(crate) mod back;
 pub(crate) mod nearest;
 pub(crate) mod path;
-mod seek_lower_bound;
+pub(crate) mod seek_lower_bound;
 
 /// A walk over the pairs of a tree, in order. Its caller holds the path.
 #[derive(Drop)]

@@ -1,6 +1,6 @@
 -- A row of words, read as a set of positions: position k is bit `k mod width` of word `k div width`.
-use Rattle.std.proofs.Common.{◌≡◌, ◌≢◌, ℕ, suc, ◌<◌, ◌≤◌, ◌+◌, ◌-◌, ◌*◌, ◌/◌, ◌%◌, Bool, true, false, eqb, List, map, length}
-use Rattle.std.proofs.Common.{get_or, set, subst, sym, ap, ◌∙◌, arith, ⊎_elim, rules}
+use Rattle.std.proofs.Common.{◌≡◌, ◌≢◌, ℕ, suc, ◌<◌, ◌≤◌, ◌+◌, ◌-◌, ◌*◌, ◌/◌, ◌%◌, Bool, true, false, eqb}
+use Rattle.std.proofs.Common.{List, map, length, get_or, set, subst, sym, ap, ◌∙◌, arith, ⊎_elim, rules}
 use Rattle.std.specs.Prelude.{nat_le, nat_lt, ◌&&◌, replicate}
 use Rattle.std.proofs.lemmas.Bool.{eq-eqb, ne_eqb, cases_lt}
 use Rattle.std.proofs.lemmas.Bool.Decides.{eqb_tells}
@@ -186,7 +186,8 @@ module _ {W : Type 0} (width : ℕ) (number : W → ℕ) (p : 0 < width) where
   module _ (ws first : List W) (s i q from : ℕ) (x y : W) (len : length ws ≡ s) (h : i < s) (e : x ≡ get_or ws i x)
       (one : (j : ℕ) → j < width → has_bit (number y) j ≡ (nat_le from j && has_bit (number x) j))
       (same : (j : ℕ) → j < width → nat_le from j ≡ nat_lt q (i * width + j))
-      (passed : (k : ℕ) → k < i * width → words_have width number ws k ≡ (nat_lt q k && words_have width number first k))
+      (passed : (k : ℕ) → k < i * width
+      → words_have width number ws k ≡ (nat_lt q k && words_have width number first k))
       (left : (k : ℕ) → i * width ≤ k → k < s * width → words_have width number ws k ≡ words_have width number first k)
     where
       in_this_row : (j : ℕ) → j < width → words_have width number (set ws i y) (i * width + j)

@@ -13,8 +13,8 @@ use rart_keys::{KeyTrait, Partial};
 use rart_trie::Count;
 
 impl<'a, K: KeyTrait, V, C: Count> Seen<'a, K, V, C> {
-    /// Returns the longest common prefix of the keys that begin with the bytes `prefix`, or `None` if there are none. It
-    /// makes that prefix as a key, and does not allocate.
+    /// Returns the longest common prefix of the keys that begin with the bytes `prefix`, or `None` if there are none.
+    /// It makes that prefix as a key, and does not allocate.
     ///
     /// # Visits
     ///

@@ -7,16 +7,17 @@ ghost use Rattle.std.specs.Cmp.Lexicographic.{slice_cmp};
 ghost use Rattle.std.specs.Ordering.{nat_cmp};
 ghost use Rattle.std.specs.Prelude.{◌≡◌, ◌≤◌, ◌+◌, ◌*◌, ◌||◌, [], length, option_map};
 ghost use Rattle.rart_keys.specs.ByteStrings.{strip_prefix};
-ghost use Rattle.rart_keys.specs.Ranges.{between, bound_in};
-ghost use Rattle.rart_nodes.specs.ranges.BoundCuts.{bound_at, bound_by, bound_past, bound_with, first_cmp, is_bounded};
-ghost use Rattle.rart_nodes.specs.ranges.BoundCuts.{is_in, is_inside, path_count, rest_past};
+ghost use Rattle.rart_keys.specs.Ranges.{between, bound_bytes, bound_in};
+ghost use Rattle.rart_nodes.specs.ranges.BoundCuts.{bound_at, bound_by, bound_past, bound_with, byte_below, first_cmp};
+ghost use Rattle.rart_nodes.specs.ranges.BoundCuts.{is_bounded, is_in, is_inside, path_count, rest_past};
 ghost use Rattle.rart_nodes.specs.ranges.LentBounds.{lent_bound};
 ghost use Rattle.rart_nodes.specs.ranges.Spans.{count_bound, count_visits};
 ghost use Rattle.rart_nodes.specs.tries.SeenTrees.{seen_pairs};
 ghost use Rattle.rart_trie.specs.tries.Trie.{own_pair, pairs_of, value_of};
 
-use crate::node::range::{is_before, slice_bound};
+use crate::node::range::{bytes_of, is_before, slice_bound};
 use crate::node::seen::{Entered, Seen};
+use crate::node::walk::seek_lower_bound::branches_after;
 use crate::node::walks::count_pairs::count_below;
 use crate::node::walks::descending::range::is_after;
 use rart_keys::{KeyTrait, Partial};
@@ -123,8 +124,8 @@ fn compare_first(byte: u8, bytes: &[u8]) -> Ordering
     }
 }
 
-/// Returns `bound` if its first byte begins the keys, which then are `Equal`. For other keys, returns `Unbounded` if they
-/// are within it, and `None` if not.
+/// Returns `bound` if its first byte begins the keys, which then are `Equal`. For other keys, returns `Unbounded` if
+/// they are within it, and `None` if not.
 fn bound_for<'k>(side: End, bound: Bound<&'k [u8]>, at: Ordering) -> Option<Bound<&'k [u8]>>
     ensures { option_map lent_bound result ≡ bound_by side (lent_bound bound.entry) at }
 {
@@ -145,6 +146,17 @@ fn at_child<'k>(side: End, byte: u8, bound: Bound<&'k [u8]>) -> Option<Bound<&'k
         Bound::Included(bytes) => bound_for(side, bound, compare_first(byte, bytes)),
         Bound::Excluded(bytes) => bound_for(side, bound, compare_first(byte, bytes)),
         Bound::Unbounded => Some(Bound::Unbounded),
+    }
+}
+
+/// Returns the byte below the first byte of a start, if there is one: no key that begins with it, or with a lower byte,
+/// is within the start.
+fn byte_below(start: Bound<&[u8]>) -> Option<u8>
+    ensures { result ≡ byte_below (bound_bytes (lent_bound start.entry)) }
+{
+    match bytes_of(start).0.first() {
+        Some(byte) => byte.checked_sub(1),
+        None => None,
     }
 }
 
@@ -190,7 +202,8 @@ fn count_within<P: Partial, V, C: Count>(
         return 0;
     };
     let mut count = count_own(at, low, high);
-    let mut rest = at.branches();
+    // the children before the start are not stepped over one by one
+    let mut rest = branches_after(at, byte_below(low));
     while let Some((byte, child)) = rest.next_child() {
         let Some(child_low) = at_child(End::First, byte, low) else {
             continue;

@@ -185,8 +185,8 @@ impl<P: Partial, V: Drop> DefaultNode<P, V> {
         Ok(node_with_prefix(first_part(keys, 0, end), storage))
     }
 
-    /// Returns the node of keys that agree up to `depth` without its prefix, and the depth at which its prefix ends. The
-    /// first key has index `from` in the whole list.
+    /// Returns the node of keys that agree up to `depth` without its prefix, and the depth at which its prefix ends.
+    /// The first key has index `from` in the whole list.
     // A node made here would take space in the frame of each level.
     fn build_below<F: FnMut(usize) -> V>(
         alloc: Global,

@@ -32,7 +32,13 @@ loop-rest-init g t c =
     let wide = c.in_ok-storage.ensures.capacity ∙ ap capacity_of c.count_branches.ensures in
     elim c.if-own-eq1.branch [
       | then-own-eq1 w ↦ started _ _ _ _ _ _ _ _ _ _ _ _ _
-          (rw (w.storage-is, w.take_value-is, w.with_value-storage.ensures.0, w.with_value-storage.ensures.1, w.with_value-storage.ensures.2)
+          (rw (
+            w.storage-is,
+            w.take_value-is,
+            w.with_value-storage.ensures.0,
+            w.with_value-storage.ensures.1,
+            w.with_value-storage.ensures.2,
+          )
           (start-here _ _ _ _ _ _ _ _ _ _ _ _ _ at_start
           c.in_ok-storage.ensures.entries wide _ _ _
           (slice_from-is c.args.keys.now _ ∙ ap (λ z. drop z c.args.keys.now) w.if-own-eq1.true)

@@ -53,7 +53,8 @@ returns-clause-visits g c = omega (
 pub returns-in-Ok-try_for_each_view_to-clause-calls : goal.returns-in-Ok-try_for_each_view_to-clause-calls
 returns-in-Ok-try_for_each_view_to-clause-calls g c =
     subst (λ (w : List (SegmentList × g.row.V.Denot)). EndsViews g.F.FnMut c.args.f.now w (Ok tt)
-    c.try_for_each_view_to.new.f) (given g (goal.at.returns-in-Ok-try_for_each_view_to-clause-calls g c).In-Ok) c.in-Ok-try_for_each_view_to.ensures.calls
+    c.try_for_each_view_to.new.f) (given g (goal.at.returns-in-Ok-try_for_each_view_to-clause-calls g c).In-Ok)
+    c.in-Ok-try_for_each_view_to.ensures.calls
 
 pub returns-in-Ok-try_for_each_view_to-clause-by_calls : goal.returns-in-Ok-try_for_each_view_to-clause-by_calls
 returns-in-Ok-try_for_each_view_to-clause-by_calls g c =
@@ -61,7 +62,8 @@ returns-in-Ok-try_for_each_view_to-clause-by_calls g c =
       n.0,
       (
         subst (λ (w : List (SegmentList × g.row.V.Denot)). EndsViewsAfter g.F.FnMut c.args.f.now w n.0 (Ok tt)
-            c.try_for_each_view_to.new.f) (given g (goal.at.returns-in-Ok-try_for_each_view_to-clause-by_calls g c).In-Ok) n.1.0,
+            c.try_for_each_view_to.new.f)
+            (given g (goal.at.returns-in-Ok-try_for_each_view_to-clause-by_calls g c).In-Ok) n.1.0,
         omega (arith, n.1.1, c.in-Ok.ensures.visits),
       ),
     )
@@ -76,8 +78,9 @@ returns-clause-by_calls g c =
     let n = c.in-Err.ensures.by_calls _ c.in-Ok.ensures.low in (
       n.0,
       (
-        subst (λ (w : List (SegmentList × g.row.V.Denot)). EndsViewsAfter g.F.FnMut c.args.f.now w n.0 (Err c.in-Err.error)
-            c.try_for_each_view_to.new.f) (given g (goal.at.returns-clause-by_calls g c).In-Ok) n.1.0,
+        subst (λ (w : List (SegmentList × g.row.V.Denot)). EndsViewsAfter g.F.FnMut c.args.f.now w n.0
+            (Err c.in-Err.error) c.try_for_each_view_to.new.f)
+            (given g (goal.at.returns-clause-by_calls g c).In-Ok) n.1.0,
         omega (arith, n.1.1, c.in-Ok.ensures.visits),
       ),
     )

@@ -18,7 +18,8 @@ returns-in-Some-clause-below g c = (last-among (option_copied c.args.value)
     (before-part c.args.edge c.args.at.node.now c.args.at.canonical).0 c.in-Some.ensures).1
 
 pub returns-in_default-value-clause-pair : goal.returns-in_default-value-clause-pair
-returns-in_default-value-clause-pair g c = ap (λ v. last_or None (own_pair (option_copied v))) (sym c.in_default-value.is)
+returns-in_default-value-clause-pair g c
+    = ap (λ v. last_or None (own_pair (option_copied v))) (sym c.in_default-value.is)
     ∙ last-own (option_copied c.args.value) (children_before c.args.edge (children_in c.args.at.node.now))
     c.in_default.ensures
 

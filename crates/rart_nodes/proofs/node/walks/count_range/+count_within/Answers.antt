@@ -1,15 +1,18 @@
-use Rattle.std.proofs.Common.{◌≡◌, ◌≤◌, ◌+◌, ◌*◌, ◌++◌, ℕ, Some, arith, ap, length, sym, ◌∙◌}
+use Rattle.std.proofs.Common.{◌≡◌, ◌≤◌, ◌+◌, ◌*◌, ◌++◌, ℕ, Some, arith, ap, length, subst, sym, ◌∙◌}
 use Rattle.rart_nodes.specs.ranges.BoundCuts.{bound_past, path_count}
 use Rattle.rart_nodes.specs.ranges.LentBounds.{lent_bound}
 use Rattle.rart_trie.specs.declared.node.ends.End.TheVariants.{First, Last}
 use Rattle.rart_trie.specs.tries.Trie.{children_in, children_pairs, own_pair, pairs_of, prefix_of, value_of}
-use Rattle.rart_trie.specs.tries.TrieCode.{node_count}
+use Rattle.rart_trie.specs.tries.Trie.{AreCanonical}
+use Rattle.rart_trie.specs.tries.TrieCode.{child_count, node_count}
 use Rattle.rart_trie.proofs.tries.CanonicalTests.{IsCanonical-test}
 use Rattle.rart_nodes.proofs.joins.AlignmentLemmas.{fewer-below, fewer-left}
-use Rattle.rart_nodes.proofs.ranges.CountedBounds.{all-counted, count-few, count_in, counted, ended, few-children}
-use Rattle.rart_nodes.proofs.ranges.CountedBounds.{fewer-pairs, inside, most_below, outside, outside-end, passed}
-use Rattle.rart_nodes.proofs.ranges.CountedBounds.{rest-canonical, visits-inside, visits-outside}
+use Rattle.rart_nodes.proofs.ranges.CountedBounds.{all-counted, count-append, count-few, count_in, counted, ended}
+use Rattle.rart_nodes.proofs.ranges.CountedBounds.{few-children, fewer-pairs, inside, most_below, outside, outside-end}
+use Rattle.rart_nodes.proofs.ranges.CountedBounds.{passed, rest-canonical, visits-inside, visits-outside}
+use Rattle.rart_nodes.proofs.ranges.SkippedChildren.{after-alike}
 use Rattle.rart_nodes.proofs.walks.PartLemmas.{few-count}
+use Rattle.rart_nodes.proofs.walks.PathLemmas.{after-part}
 use Rattle.rart_nodes.proofs.node.walks.count_range.+count_within.Given.{Over}
 use Rattle.rart_nodes.proofs.node.walks.count_range.+count_within.Goals.{In-Some-after_prefix}
 use Rattle.rart_nodes.proofs.node.walks.count_range.+count_within.Goals as goal
@@ -74,11 +77,36 @@ own-count : (g : Over) (t : ℕ) (c : In-Some-after_prefix g t)
 own-count g t c = inside _ _ _ _ c.args.at.node.now (start-past g t c) (end-past g t c)
 
 own-visits : (g : Over) (t : ℕ) (c : In-Some-after_prefix g t)
-    → 1 + most_below (lent_bound c.in-Some.low) (lent_bound c.in-Some-after_prefix.high) (children_in c.args.at.node.now)
+    → 1 + most_below (lent_bound c.in-Some.low) (lent_bound c.in-Some-after_prefix.high)
+    (children_in c.args.at.node.now)
     ≤ path_count (lent_bound c.args.start) c.args.at.node.now + path_count (lent_bound c.args.end) c.args.at.node.now
     + 2 * count_in (Some (lent_bound c.args.start)) (Some (lent_bound c.args.end)) (pairs_of c.args.at.node.now)
 own-visits g t c = visits-inside _ _ _ _ c.args.at.node.now (sym c.has_bounds.ensures ∙ c.if-not-has_bounds.false)
     c.args.at.canonical (start-past g t c) (end-past g t c)
+
+-- the children from the start on
+pub loop-byte-init : goal.loop-byte-init
+loop-byte-init g t c =
+    let low = lent_bound c.in-Some.low in
+    let high = lent_bound c.in-Some-after_prefix.high in
+    let from = c.branches_after.ensures in
+    let w = after-alike low high c.byte_below.result c.args.at.node.now c.args.at.canonical
+    (sym c.byte_below.ensures) in
+    record {
+      count = omega (
+        arith,
+        w.count,
+        ap (λ z. count_in (Some low) (Some high) (children_pairs z)) from,
+        c.count_own.ensures,
+        count-append (Some low) (Some high) (own_pair (value_of c.args.at.node.now))
+            (children_pairs (children_in c.args.at.node.now)),
+      );
+      visits = omega (arith, w.visits, ap (most_below low high) from);
+      pairs = omega (arith, w.pairs, ap (λ z. length (children_pairs z)) from);
+      within = omega (arith, w.within, ap child_count from);
+      canonical = subst (AreCanonical 0) (sym from)
+          (after-part c.byte_below.result c.args.at.node.now c.args.at.canonical).0;
+    }
 
 -- a child before the start
 pub loop-byte-preserved-in_default-at_child : goal.loop-byte-preserved-in_default-at_child

@@ -57,10 +57,12 @@ loop-i-preserved g c =
     record {
       passed = passed_more width g.W.BitsetWord.number g.met.W.BitsetWord.wide ws first g.row.S c.loop-i.i
           c.args.position c.if-over-WIDTH.from c.index-self-i.result c.without_low.result len c.loop-i-test.true
-          c.index-self-i.is (rw (← c.index-self-i.is) at c.without_low.ensures) same c.loop-i.invariant.passed c.loop-i.invariant.left;
+          c.index-self-i.is (rw (← c.index-self-i.is) at c.without_low.ensures) same c.loop-i.invariant.passed
+          c.loop-i.invariant.left;
       left = left_more width g.W.BitsetWord.number g.met.W.BitsetWord.wide ws first g.row.S c.loop-i.i
           c.args.position c.if-over-WIDTH.from c.index-self-i.result c.without_low.result len c.loop-i-test.true
-          c.index-self-i.is (rw (← c.index-self-i.is) at c.without_low.ensures) same c.loop-i.invariant.passed c.loop-i.invariant.left;
+          c.index-self-i.is (rw (← c.index-self-i.is) at c.without_low.ensures) same c.loop-i.invariant.passed
+          c.loop-i.invariant.left;
     }
 
 pub returns : goal.returns

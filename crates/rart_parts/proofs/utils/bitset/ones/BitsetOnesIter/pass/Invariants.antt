@@ -8,7 +8,8 @@ abbrev pub invariant-loop-i : goal.invariant-loop-i
 invariant-loop-i g l = record {
   passed : (k : ℕ) → k < l.i * g.W.BitsetWord.WIDTH
       → words_have g.W.BitsetWord.WIDTH g.W.BitsetWord.number l.self-inside.rest.words k
-      ≡ (nat_lt l.position k && words_have g.W.BitsetWord.WIDTH g.W.BitsetWord.number l.initial.self-inside.rest.words k);
+      ≡ (nat_lt l.position k
+      && words_have g.W.BitsetWord.WIDTH g.W.BitsetWord.number l.initial.self-inside.rest.words k);
   left : (k : ℕ) → l.i * g.W.BitsetWord.WIDTH ≤ k → k < g.row.S * g.W.BitsetWord.WIDTH
       → words_have g.W.BitsetWord.WIDTH g.W.BitsetWord.number l.self-inside.rest.words k
       ≡ words_have g.W.BitsetWord.WIDTH g.W.BitsetWord.number l.initial.self-inside.rest.words k;
