@@ -1,6 +1,6 @@
 -- The children before a start add nothing to a count, so that they can be skipped.
-use Rattle.std.proofs.Common.{◌≡◌, ℕ, zero, suc, ◌+◌, ◌≤◌, ⊎_elim, List, [], ◌∷◌, length, length-append}
-use Rattle.std.proofs.Common.{Option, Some, None, refl, sym, arith}
+use Rattle.std.proofs.Common.{◌≡◌, ℕ, zero, suc, ◌≤◌, ⊎_elim, List, [], ◌∷◌, length, length-append}
+use Rattle.std.proofs.Common.{true, Option, Some, None, refl, sym, arith}
 use Rattle.std.specs.declared.ops.Bound.{Bound}
 use Rattle.std.specs.declared.ops.Bound.TheVariants.{Included, Excluded, Unbounded}
 use Rattle.std.proofs.lemmas.Bool.{cases_lt, lt-ltb, le-ltb}
@@ -16,7 +16,7 @@ use Rattle.rart_trie.proofs.tries.CanonicalTests.{canonical-lower}
 use Rattle.rart_nodes.specs.ranges.BoundCuts.{bound_at, byte_below}
 use Rattle.rart_nodes.specs.ranges.Steps.{children_after}
 use Rattle.rart_nodes.proofs.ranges.CountedBounds.{count_in, count-append, most_below, passed}
-use Rattle.rart_nodes.proofs.walks.PathLemmas.{after-part, below-canonical}
+use Rattle.rart_nodes.proofs.walks.PathLemmas.{below-canonical}
 
 none-below : (a : Bound (List ℕ)) (b c : ℕ) → byte_below (bound_bytes a) ≡ Some b → c ≤ b → bound_at First c a ≡ None
 none-below Unbounded b c h l = absurd (cc)
@@ -73,7 +73,7 @@ module _ {V : Type 0} where
   above-alike a b d low (child c t cs) w h =
       let rest = above-alike a b d (suc c) cs w.3 h in
       ⊎_elim (λ l. rw (lt-ltb d c l) (kept-alike a b c t (children_above d cs) cs rest))
-      (λ l. rw (le-ltb c d l) (passed-alike a b c t (children_above d cs) cs
+      (λ l. rw (le-ltb d c l) (passed-alike a b c t (children_above d cs) cs
       (canonical-lower 0 low (child c t cs) (omega arith) w) (none-below a d c h l) rest)) (cases_lt d c)
 
   pub after-alike : (a b : Bound (List ℕ)) (e : Option ℕ) (t : Trie V) → is_canonical t ≡ true

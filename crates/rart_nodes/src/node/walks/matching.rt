@@ -107,6 +107,7 @@ impl<'a, K: KeyTrait, V, C: Count> Seen<'a, K, V, C> {
             + probe_count (seen_keys self.entry) probe.now }
         ensures bound { C.number counter.new ≤ C.number counter.old + length probe.now + 1 }
     {
+        // a loop of its own: by the steps of `Matching` it takes a fifth more instructions
         let mut next = self.top();
         let mut rest = probe;
         let mut last = None;

@@ -89,7 +89,7 @@ pub loop-byte-init : goal.loop-byte-init
 loop-byte-init g t c =
     let low = lent_bound c.in-Some.low in
     let high = lent_bound c.in-Some-after_prefix.high in
-    let from = c.branches_after.ensures in
+    let from = c.branches_after-rest.ensures in
     let w = after-alike low high c.byte_below.result c.args.at.node.now c.args.at.canonical
     (sym c.byte_below.ensures) in
     record {
@@ -97,7 +97,7 @@ loop-byte-init g t c =
         arith,
         w.count,
         ap (λ z. count_in (Some low) (Some high) (children_pairs z)) from,
-        c.count_own.ensures,
+        c.count_own-count.ensures,
         count-append (Some low) (Some high) (own_pair (value_of c.args.at.node.now))
             (children_pairs (children_in c.args.at.node.now)),
       );
