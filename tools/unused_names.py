@@ -1,0 +1,117 @@
+#!/usr/bin/env python3
+"""Lists the names of proofs/ that nothing uses, and those that are `pub` though no other file uses them.
+
+usage: unused_names.py [--check]
+
+A name that only its own declaration uses counts as unused. Answers to goals, examples and words of specs/ are not
+listed: the checker reads the first, and people the others. The last line has both numbers. With --check the status is 1 unless
+both are 0.
+"""
+import pathlib
+import re
+import sys
+
+TOP = pathlib.Path(__file__).resolve().parents[1]
+NAME = r"[^\s:(){},.;]+"
+DECLARED = re.compile(rf"^( *)((?:pub |abbrev |data |record )*)({NAME}) (?::|\(|\{{)")
+TOKEN = re.compile(NAME)
+IMPORT = re.compile(r"^ *use (Rattle\.\S+?)\.\{([^}]*)\}", re.M)
+WHOLE = re.compile(r"^ *use (Rattle\.\S+) as (\S+)", re.M)
+WORDS = {"module", "use", "open", "let", "where", "in"}
+
+
+def module_of(path):
+    """Returns the name by which other files import a file."""
+    parts = path.relative_to(TOP / "crates").with_suffix("").parts
+    return ".".join(("Rattle", *parts))
+
+
+def is_read_by_the_checker(path, text):
+    """Returns whether each name of a file is read: answers, and examples of what a specification says."""
+    return path.stem in ("Answers", "Invariants", "Proof", "Lib") or path.stem.endswith("Examples")
+
+
+def declarations(text):
+    """Yields each declared name with whether it is `pub`, and the lines of its declaration, each by its index."""
+    lines = text.splitlines()
+    record = None
+    for at, line in enumerate(lines):
+        depth = depth_of(line)
+        if record is not None and line.strip() and depth <= record:
+            record = None
+        match = DECLARED.match(line)
+        if record is not None or not match or match[3] in WORDS:
+            continue
+        kinds = match[2].split()
+        if "record" in kinds or "data" in kinds:
+            record = depth
+        elif f"{match[3]} :" not in line:
+            continue
+        yield match[3], "pub" in kinds, set(own_lines(lines, at, depth, match[3]))
+
+
+def depth_of(line):
+    return len(line) - len(line.lstrip())
+
+
+def own_lines(lines, at, depth, name):
+    """Yields the lines of a declaration: its type, and the clauses that follow it."""
+    yield at
+    for next_at in range(at + 1, len(lines)):
+        line = lines[next_at]
+        if line.strip() and depth_of(line) <= depth and line.split()[0] != name:
+            return
+        yield next_at
+
+
+def read_sources():
+    texts = {}
+    for path in sorted((TOP / "crates").glob("*/*/**/*.antt")):
+        if "out" not in path.parts:
+            texts[path] = "\n".join(line.split("--")[0] for line in path.read_text().splitlines())
+    return texts
+
+
+def names_used_elsewhere(texts):
+    """Returns the pairs of module and name that some file imports, or names by an alias of the module."""
+    used = set()
+    for text in texts.values():
+        for module, names in IMPORT.findall(text):
+            used.update((module, name.strip().split(" as ")[0]) for name in names.split(","))
+        for module, alias in WHOLE.findall(text):
+            used.update((module, name) for name in re.findall(rf"\b{re.escape(alias)}\.({NAME})", text))
+    return used
+
+
+def main(arguments):
+    if arguments not in ([], ["--check"]):
+        print(__doc__.split("\n\n")[1], file=sys.stderr)
+        return 2
+    texts = read_sources()
+    elsewhere = names_used_elsewhere(texts)
+    unused, needless = [], []
+    for path, text in texts.items():
+        if "proofs" not in path.parts or is_read_by_the_checker(path, text):
+            continue
+        lines = text.splitlines()
+        for name, is_pub, own in declarations(text):
+            here = any(
+                name in TOKEN.findall(line) for at, line in enumerate(lines) if at not in own and "use Rattle" not in line
+            )
+            place = f"{path.relative_to(TOP)}: {name}"
+            if (module_of(path), name) in elsewhere:
+                continue
+            if not here:
+                unused.append(place)
+            elif is_pub:
+                needless.append(place)
+    for place in unused:
+        print(f"unused: {place}")
+    for place in needless:
+        print(f"needless pub: {place}")
+    print(f"{len(unused)} unused, {len(needless)} needless pub")
+    return 1 if arguments and (unused or needless) else 0
+
+
+if __name__ == "__main__":
+    sys.exit(main(sys.argv[1:]))
