@@ -59,7 +59,7 @@ def own_lines(lines, at, depth, name):
     yield at
     for next_at in range(at + 1, len(lines)):
         line = lines[next_at]
-        if line.strip() and depth_of(line) <= depth and line.split()[0] != name:
+        if line.strip() and depth_of(line) <= depth and line.split()[0] not in (name, ")", "]", "}"):
             return
         yield next_at
 
