@@ -1,6 +1,7 @@
 //! Trees and route tables as `{:?}` prints them.
 
 use rart::{AdaptiveRadixTree, ArrayKey, RouteTable};
+use rart_test_tools::refusals::{is_swept, refuse, was_refused};
 use std::alloc::Global;
 
 type Key = ArrayKey<1>;
@@ -47,4 +48,25 @@ fn a_tree_is_printed_as_a_map(rt: HostRuntime) {
         assert!(rt; tree_has_text(rt.alloc(), keys, text));
         assert!(rt; table_has_text(rt.alloc(), keys, text));
     }
+}
+
+// Prints a tree with a request refused: its walk and the growth of the text request memory.
+fn is_refused_well(alloc: Global, at: usize) -> Option<bool> {
+    let mut tree = AdaptiveRadixTree::<Key, u64>::new(alloc);
+    if tree.insert(Key::from_u8(b'a'), 97).is_err() {
+        return None;
+    }
+    refuse(alloc, at);
+    let printed = format!(in alloc; "{tree:?}");
+    let refused = was_refused(alloc);
+    let is_whole = match &printed {
+        Ok(text) => text.as_str() == "{ArrayKey { stored: [97], len: 1 }: 97}",
+        Err(_failure) => false,
+    };
+    (printed.is_err() == refused && is_whole != refused && tree.len() == 1).then_some(refused)
+}
+
+#[test]
+fn a_tree_that_lacks_memory_to_print_it_is_an_error(rt: HostRuntime) {
+    assert!(rt; is_swept(rt.alloc(), |at| is_refused_well(rt.alloc(), at)));
 }

@@ -1,5 +1,6 @@
 //! Values that count when they are dropped: none is lost, and none is dropped twice.
 
+mod held;
 mod prefixes;
 
 use rart::{

@@ -71,11 +71,12 @@ fn walked(tree: &Tree, start: Bound<&[u8]>, end: Bound<&[u8]>) -> Option<Seen> {
     let Ok(mut walk) = tree.seen().range_bytes_counted(start, end, &mut tally) else {
         return None;
     };
-    let mut pairs = 0_usize;
-    while let Some(_) = walk.next_counted(&mut tally) {
-        pairs = pairs.wrapping_add(1);
+    for pairs in 0..=PAIRS.len() {
+        if walk.next_counted(&mut tally).is_none() {
+            return Some((pairs, tally.number));
+        }
     }
-    Some((pairs, tally.number))
+    None
 }
 
 fn walked_back(tree: &Tree, start: Bound<&[u8]>, end: Bound<&[u8]>) -> Option<Seen> {
@@ -86,11 +87,12 @@ fn walked_back(tree: &Tree, start: Bound<&[u8]>, end: Bound<&[u8]>) -> Option<Se
     else {
         return None;
     };
-    let mut pairs = 0_usize;
-    while let Some(_) = walk.next_counted(&mut tally) {
-        pairs = pairs.wrapping_add(1);
+    for pairs in 0..=PAIRS.len() {
+        if walk.next_counted(&mut tally).is_none() {
+            return Some((pairs, tally.number));
+        }
     }
-    Some((pairs, tally.number))
+    None
 }
 
 fn viewed(tree: &Tree, start: Bound<&[u8]>, end: Bound<&[u8]>, is_lent: bool) -> Option<Seen> {
