@@ -3,15 +3,20 @@ use Rattle.std.specs.Prelude.{◌≡◌, ℕ, List, Option, OnSome}
 use Rattle.std.specs.Borrow.{Fml, LendsSo, MutBor}
 use denote.RattleType.{RattleType}
 use Rattle.rart_keys.specs.SortedMap.{put}
-use Rattle.rart_cidr.specs.contracts.table4.CidrTable4.{the_row as row4}
-use Rattle.rart_cidr.specs.contracts.table6.CidrTable6.{the_row as row6}
+use Rattle.rart_keys.specs.declared.partials.Partial as partials
+use Rattle.rart.specs.Loans.{KeyMembers}
+use Rattle.rart_cidr.specs.declared.cidr.family.Network as networks
+use Rattle.rart_cidr.specs.contracts.network_table.NetworkTable.{the_row}
 
--- the target of a network was borrowed from a table of this type, if it is stored: the table ends with what was left
--- there; if nothing was borrowed, it is unchanged
-abbrev pub lends_target4 : (T : RattleType) → MutBor (List (List ℕ × T.Denot)) → List ℕ → Option (MutBor T.Denot) → Fml
-lends_target4 T table net lent = LendsSo (row4 T) T table lent
-    (λ t w. OnSome lent (t ≡ put net w table.now)) (λ t. t ≡ table.now)
+-- the type of a table
+abbrev pub network_row : (N T K P : RattleType) → networks.Ghosts N.Denot K.Denot P.Denot → KeyMembers K.Denot
+    → partials.Ghosts P.Denot → RattleType
+network_row N T K P n k p = the_row N T K P n (record { MAXIMUM_SIZE = k.MAXIMUM_SIZE; bytes = k.bytes })
+    (record { eq = k.eq }) (record { cmp = k.cmp }) (record { partial_cmp = k.partial_cmp }) p
 
-abbrev pub lends_target6 : (T : RattleType) → MutBor (List (List ℕ × T.Denot)) → List ℕ → Option (MutBor T.Denot) → Fml
-lends_target6 T table net lent = LendsSo (row6 T) T table lent
+-- the target of a network was borrowed, if it is stored: the table ends with what was left there; if nothing was
+-- borrowed, it is unchanged
+abbrev pub lends_network_target : (N T K P : RattleType) → networks.Ghosts N.Denot K.Denot P.Denot → KeyMembers K.Denot
+    → partials.Ghosts P.Denot → MutBor (List (List ℕ × T.Denot)) → List ℕ → Option (MutBor T.Denot) → Fml
+lends_network_target N T K P n k p table net lent = LendsSo (network_row N T K P n k p) T table lent
     (λ t w. OnSome lent (t ≡ put net w table.now)) (λ t. t ≡ table.now)

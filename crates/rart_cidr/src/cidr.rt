@@ -4,12 +4,14 @@ ghost use Rattle.rart_keys.specs.KeyBytes.{AreBytes};
 ghost use Rattle.rart_cidr.specs.Bits.{AreClearAfter, bits_of, masked_octets};
 
 mod error;
+mod family;
 mod parse;
 mod v4;
 mod v6;
 
 use crate::bits::{are_bytes, clear_after};
 pub use crate::cidr::error::CidrError;
+pub use crate::cidr::family::Network;
 pub use crate::cidr::parse::ParseCidrError;
 use std::cmp::Ordering;
 
@@ -106,6 +108,7 @@ impl<const N: usize> Cidr<N> {
     pub fn len(&self) -> u8
         ensures value { result ≡ length (cidr_bits self.now) }
         ensures at_most { result ≤ 8 * N }
+        ensures narrow { N ≤ 16 }
     {
         self.len
     }

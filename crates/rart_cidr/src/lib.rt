@@ -7,13 +7,14 @@ mod bits;
 pub mod cidr;
 mod code_map;
 mod coded_network;
+pub mod network_table;
 mod stride;
 pub mod table;
-pub mod table4;
-pub mod table6;
 
-pub use crate::cidr::{Cidr, Cidr4, Cidr6, CidrError, ParseCidrError};
+pub use crate::cidr::{Cidr, Cidr4, Cidr6, CidrError, Network, ParseCidrError};
+pub use crate::network_table::{
+    CidrTable4, CidrTable6, Matches, Matches4, Matches6, NetworkTable, Routes, Routes4, Routes6,
+    SeenNetworkTable, SeenTable4, SeenTable6,
+};
 pub use crate::table::BitTable;
 pub use crate::table::seen::SeenTable;
-pub use crate::table4::{CidrTable4, Matches4, Routes4, SeenTable4};
-pub use crate::table6::{CidrTable6, Matches6, Routes6, SeenTable6};

@@ -2,28 +2,29 @@
 
 use crate::calls::{Ask, Reply, RouteText, Row};
 use crate::model::{Group, Network, Route};
-use crate::tables::{Table, host};
+use crate::tables::Table;
+use crate::tables::version::{Version, address, compare, host, network, parse, supernet};
 use rart::TreeError;
 use rart_cidr::{CidrError, ParseCidrError};
 use std::cmp::Ordering;
 
 // The network that a text writes, if it is also the network of its address and length.
-fn network_of<T: Table>(text: &str) -> Option<Network> {
-    match T::parse(text) {
-        Ok(net) => (T::network(net.addr, net.len) == Ok(net)).then_some(net),
+fn network_of<N: Version>(text: &str) -> Option<Network> {
+    match parse::<N>(text) {
+        Ok(net) => (network::<N>(net.addr, net.len) == Ok(net)).then_some(net),
         Err(_) => None,
     }
 }
 
-fn is_route<T: Table>(route: Route, wanted: RouteText) -> bool {
-    network_of::<T>(wanted.0) == Some(route.0) && route.1 == wanted.1
+fn is_route<N: Version>(route: Route, wanted: RouteText) -> bool {
+    network_of::<N>(wanted.0) == Some(route.0) && route.1 == wanted.1
 }
 
-fn are_routes<T: Table>(routes: &[Route], wanted: &[RouteText]) -> bool {
+fn are_routes<N: Version>(routes: &[Route], wanted: &[RouteText]) -> bool {
     let mut at = 0_usize;
     for route in routes {
         match wanted.get(at) {
-            Some(text) if is_route::<T>(*route, *text) => at = at.wrapping_add(1),
+            Some(text) if is_route::<N>(*route, *text) => at = at.wrapping_add(1),
             _ => return false,
         }
     }
@@ -31,26 +32,26 @@ fn are_routes<T: Table>(routes: &[Route], wanted: &[RouteText]) -> bool {
 }
 
 // Whether the longest matches by descent and by lengths are both the one of the row.
-fn is_longest<T: Table>(found: (Option<Route>, Option<Route>), wanted: Reply) -> bool {
+fn is_longest<N: Version>(found: (Option<Route>, Option<Route>), wanted: Reply) -> bool {
     found.0 == found.1
         && match (found.0, wanted) {
-            (Some(route), Reply::Route(text)) => is_route::<T>(route, text),
+            (Some(route), Reply::Route(text)) => is_route::<N>(route, text),
             (None, Reply::None) => true,
             _ => false,
         }
 }
 
-fn is_network<T: Table>(addr: u128, len: u8, wanted: Reply) -> bool {
-    match (T::network(addr, len), wanted) {
+fn is_network<N: Version>(addr: u128, len: u8, wanted: Reply) -> bool {
+    match (network::<N>(addr, len), wanted) {
         (Err(CidrError::Length), Reply::BadLength) => true,
         (Err(CidrError::HostBits), Reply::HostBits) => true,
-        (Ok(net), Reply::Net(text)) => network_of::<T>(text) == Some(net),
+        (Ok(net), Reply::Net(text)) => network_of::<N>(text) == Some(net),
         _ => false,
     }
 }
 
-fn is_parse_error<T: Table>(text: &str, wanted: Reply) -> bool {
-    match (T::parse(text), wanted) {
+fn is_parse_error<N: Version>(text: &str, wanted: Reply) -> bool {
+    match (parse::<N>(text), wanted) {
         (Err(ParseCidrError::Address), Reply::BadAddress) => true,
         (Err(ParseCidrError::Length), Reply::BadLength) => true,
         (Err(ParseCidrError::HostBits), Reply::HostBits) => true,
@@ -58,51 +59,51 @@ fn is_parse_error<T: Table>(text: &str, wanted: Reply) -> bool {
     }
 }
 
-fn is_supernet<T: Table>(net: Network, len: u8, wanted: Reply) -> bool {
+fn is_supernet<N: Version>(net: Network, len: u8, wanted: Reply) -> bool {
     match wanted {
         Reply::Net(text) => {
-            len <= net.len && network_of::<T>(text) == Some(T::supernet(net, len))
+            len <= net.len && network_of::<N>(text) == Some(supernet::<N>(net, len))
         }
         _ => false,
     }
 }
 
-fn is_order<T: Table>(left: &str, right: &str, wanted: Reply) -> bool {
-    match (network_of::<T>(left), network_of::<T>(right), wanted) {
+fn is_order<N: Version>(left: &str, right: &str, wanted: Reply) -> bool {
+    match (network_of::<N>(left), network_of::<N>(right), wanted) {
         (Some(left), Some(right), Reply::Order(order)) => {
-            T::order(left, right) == (order, order, order == Ordering::Equal)
+            compare::<N>(left, right) == (order, order, order == Ordering::Equal)
         }
         _ => false,
     }
 }
 
-fn is_len<T: Table>(table: &T, wanted: Reply) -> bool {
+fn is_len<N: Version>(table: &Table<N>, wanted: Reply) -> bool {
     match wanted {
         Reply::Count(count) => table.count() == (count, count == 0),
         _ => false,
     }
 }
 
-fn are_reads<T: Table>(table: &T, net: Network, wanted: Reply) -> bool {
+fn are_reads<N: Version>(table: &Table<N>, net: Network, wanted: Reply) -> bool {
     let (found, nodes, strides) = table.longest_counted(net);
     match (wanted, found) {
         (Reply::Reads(entered, read, Some(text)), Some(route)) => {
-            nodes == entered && strides == read && network_of::<T>(text) == Some(route.0)
+            nodes == entered && strides == read && network_of::<N>(text) == Some(route.0)
         }
         (Reply::Reads(entered, read, None), None) => nodes == entered && strides == read,
         _ => false,
     }
 }
 
-fn walk_holds<T: Table>(
-    table: &T,
+fn walk_holds<N: Version>(
+    table: &Table<N>,
     given: &mut Vec<Route>,
     group: Group,
     wanted: Reply,
 ) -> Result<bool, TreeError> {
     given.clear();
     match (table.walk(group, given), wanted) {
-        (Ok(()), Reply::Routes(texts)) => Ok(are_routes::<T>(given.as_slice(), texts)),
+        (Ok(()), Reply::Routes(texts)) => Ok(are_routes::<N>(given.as_slice(), texts)),
         (Ok(()), Reply::Count(count)) => Ok(given.len() == count),
         (Ok(()), _) => Ok(false),
         (Err(error), _) => Err(error),
@@ -110,7 +111,11 @@ fn walk_holds<T: Table>(
 }
 
 // Whether an edit at a network holds. A refused insertion must return its target.
-fn edit_holds<T: Table>(table: &mut T, net: Network, row: &Row) -> Result<bool, TreeError> {
+fn edit_holds<N: Version>(
+    table: &mut Table<N>,
+    net: Network,
+    row: &Row,
+) -> Result<bool, TreeError> {
     match *row {
         (Ask::Insert(_, target), Reply::Value(wanted)) => match table.put(net, target) {
             Ok(old) => Ok(old == wanted),
@@ -126,36 +131,36 @@ fn edit_holds<T: Table>(table: &mut T, net: Network, row: &Row) -> Result<bool, 
     }
 }
 
-fn network_holds<T: Table>(
-    table: &T,
+fn network_holds<N: Version>(
+    table: &Table<N>,
     given: &mut Vec<Route>,
     net: Network,
     row: &Row,
 ) -> Result<bool, TreeError> {
     match *row {
         (Ask::Get(_), Reply::Value(wanted)) => Ok(table.target(net) == (wanted, wanted.is_some())),
-        (Ask::Covers(_), wanted) => Ok(is_longest::<T>(table.longest_of_net(net), wanted)),
+        (Ask::Covers(_), wanted) => Ok(is_longest::<N>(table.longest_of_net(net), wanted)),
         (Ask::CoversAll(_), wanted) => walk_holds(table, given, Group::Covering(net), wanted),
         (Ask::Inside(_), wanted) => walk_holds(table, given, Group::Inside(net), wanted),
         (Ask::Reads(_), wanted) => Ok(are_reads(table, net, wanted)),
-        (Ask::Supernet(_, len), wanted) => Ok(is_supernet::<T>(net, len, wanted)),
+        (Ask::Supernet(_, len), wanted) => Ok(is_supernet::<N>(net, len, wanted)),
         _ => Ok(false),
     }
 }
 
-fn address_holds<T: Table>(
-    table: &T,
+fn address_holds<N: Version>(
+    table: &Table<N>,
     given: &mut Vec<Route>,
     addr: u128,
     row: &Row,
 ) -> Result<bool, TreeError> {
     match *row {
         (Ask::Route(_), wanted) => {
-            let found = table.longest_of_net(host::<T>(addr));
-            Ok(table.longest(addr) == found.0 && is_longest::<T>(found, wanted))
+            let found = table.longest_of_net(host::<N>(addr));
+            Ok(table.longest(addr) == found.0 && is_longest::<N>(found, wanted))
         }
         (Ask::Covering(_), wanted) => walk_holds(table, given, Group::Around(addr), wanted),
-        (Ask::Network(_, len), wanted) => Ok(is_network::<T>(addr, len, wanted)),
+        (Ask::Network(_, len), wanted) => Ok(is_network::<N>(addr, len, wanted)),
         _ => Ok(false),
     }
 }
@@ -166,14 +171,14 @@ fn address_holds<T: Table>(
 /// # Errors
 ///
 /// The error of an insertion, a removal or a walk. A row with a malformed text doesn't hold.
-pub fn row_holds<T: Table>(
-    table: &mut T,
+pub fn row_holds<N: Version>(
+    table: &mut Table<N>,
     given: &mut Vec<Route>,
     row: &Row,
 ) -> Result<bool, TreeError> {
     match row.0 {
         Ask::Insert(text, _) | Ask::Remove(text) | Ask::Write(text, _) => {
-            match network_of::<T>(text) {
+            match network_of::<N>(text) {
                 Some(net) => edit_holds(table, net, row),
                 None => Ok(false),
             }
@@ -183,17 +188,17 @@ pub fn row_holds<T: Table>(
         | Ask::CoversAll(text)
         | Ask::Inside(text)
         | Ask::Reads(text)
-        | Ask::Supernet(text, _) => match network_of::<T>(text) {
+        | Ask::Supernet(text, _) => match network_of::<N>(text) {
             Some(net) => network_holds(table, given, net, row),
             None => Ok(false),
         },
-        Ask::Route(text) | Ask::Covering(text) | Ask::Network(text, _) => match T::address(text) {
+        Ask::Route(text) | Ask::Covering(text) | Ask::Network(text, _) => match address::<N>(text) {
             Some(addr) => address_holds(table, given, addr, row),
             None => Ok(false),
         },
         Ask::All => walk_holds(table, given, Group::All, row.1),
-        Ask::Parse(text) => Ok(is_parse_error::<T>(text, row.1)),
-        Ask::Order(left, right) => Ok(is_order::<T>(left, right, row.1)),
+        Ask::Parse(text) => Ok(is_parse_error::<N>(text, row.1)),
+        Ask::Order(left, right) => Ok(is_order::<N>(left, right, row.1)),
         Ask::Clear => {
             table.remove_all();
             Ok(is_len(table, row.1))

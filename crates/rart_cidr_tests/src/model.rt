@@ -1,6 +1,7 @@
 //! A slow model of a table of networks: its routes in any order, and answers by going through all of them.
 
-use crate::tables::{Table, host};
+use crate::tables::Table;
+use crate::tables::version::{Version, host};
 
 /// A network: its first address as a number of 128 bits, which begins with the address's, and its length. Networks are
 /// ordered by address, then by length.
@@ -105,8 +106,8 @@ fn are_of(given: &[Route], routes: &[Route], group: Group) -> bool {
 }
 
 /// Returns whether the table's walk of a group gives the routes of the model in order.
-pub fn is_walked<T: Table>(
-    table: &T,
+pub fn is_walked<N: Version>(
+    table: &Table<N>,
     given: &mut Vec<Route>,
     routes: &[Route],
     group: Group,
@@ -116,13 +117,18 @@ pub fn is_walked<T: Table>(
 }
 
 /// Returns whether table and model have the same longest match of `addr`.
-pub fn is_longest<T: Table>(table: &T, routes: &[Route], addr: u128) -> bool {
+pub fn is_longest<N: Version>(table: &Table<N>, routes: &[Route], addr: u128) -> bool {
     let wanted = longest(routes, addr);
-    table.longest(addr) == wanted && table.longest_of_net(host::<T>(addr)) == (wanted, wanted)
+    table.longest(addr) == wanted && table.longest_of_net(host::<N>(addr)) == (wanted, wanted)
 }
 
 /// Returns whether table and model answer alike about `addr`.
-pub fn is_alike<T: Table>(table: &T, given: &mut Vec<Route>, routes: &[Route], addr: u128) -> bool {
+pub fn is_alike<N: Version>(
+    table: &Table<N>,
+    given: &mut Vec<Route>,
+    routes: &[Route],
+    addr: u128,
+) -> bool {
     is_longest(table, routes, addr) && is_walked(table, given, routes, Group::Around(addr))
 }
 

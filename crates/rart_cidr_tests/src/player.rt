@@ -4,8 +4,9 @@ use crate::calls::{Ask, Row};
 use crate::checks::row_holds;
 use crate::model::Route;
 use crate::tables::Table;
+use crate::tables::version::Version;
 use rart::TreeError;
-use rart_cidr::{CidrTable4, CidrTable6};
+use rart_cidr::{Cidr4, Cidr6};
 use rart_test_tools::refusals::{is_swept, refuse, was_refused};
 use std::alloc::Global;
 use std::process::Abort;
@@ -22,9 +23,9 @@ fn may_request(ask: Ask) -> bool {
 }
 
 // The number of the first row that doesn't hold, or whose call must not request memory and does.
-fn first_wrong_on<T: Table>(
+fn first_wrong_on<N: Version>(
     alloc: Global,
-    table: &mut T,
+    table: &mut Table<N>,
     given: &mut Vec<Route>,
     rows: &[Row],
 ) -> Option<usize> {
@@ -42,8 +43,8 @@ fn first_wrong_on<T: Table>(
     None
 }
 
-fn first_wrong<T: Table>(alloc: Global, rows: &[Row]) -> Option<usize> {
-    let mut table = T::empty(alloc);
+fn first_wrong<N: Version>(alloc: Global, rows: &[Row]) -> Option<usize> {
+    let mut table = Table::<N>::empty(alloc);
     let mut given: Vec<Route> = Vec::new(alloc);
     let _reserved = given.reserve(MOST);
     first_wrong_on(alloc, &mut table, &mut given, rows)
@@ -51,19 +52,19 @@ fn first_wrong<T: Table>(alloc: Global, rows: &[Row]) -> Option<usize> {
 
 /// Fails with the number of the first row that doesn't hold, if there is one.
 pub fn assert_none_wrong(rt: &impl Abort, alloc: Global, four: &[Row], six: &[Row]) {
-    if let Some(at) = first_wrong::<CidrTable4<u64>>(alloc, four) {
+    if let Some(at) = first_wrong::<Cidr4>(alloc, four) {
         assert!(rt; false, "row {at} of IPv4 differs");
     }
-    if let Some(at) = first_wrong::<CidrTable6<u64>>(alloc, six) {
+    if let Some(at) = first_wrong::<Cidr6>(alloc, six) {
         assert!(rt; false, "row {at} of IPv6 differs");
     }
 }
 
 // Plays the rows with the request of this number refused. The call that makes the request must fail, and is repeated.
 // Returns whether a request was refused; `None` if a row doesn't hold.
-fn refused_once_on<T: Table>(
+fn refused_once_on<N: Version>(
     alloc: Global,
-    table: &mut T,
+    table: &mut Table<N>,
     given: &mut Vec<Route>,
     rows: &[Row],
     at: usize,
@@ -83,8 +84,8 @@ fn refused_once_on<T: Table>(
     (!was_refused(alloc)).then_some(was)
 }
 
-fn refused_once<T: Table>(alloc: Global, rows: &[Row], at: usize) -> Option<bool> {
-    let mut table = T::empty(alloc);
+fn refused_once<N: Version>(alloc: Global, rows: &[Row], at: usize) -> Option<bool> {
+    let mut table = Table::<N>::empty(alloc);
     let mut given: Vec<Route> = Vec::new(alloc);
     let _reserved = given.reserve(MOST);
     refused_once_on(alloc, &mut table, &mut given, rows, at)
@@ -93,13 +94,13 @@ fn refused_once<T: Table>(alloc: Global, rows: &[Row], at: usize) -> Option<bool
 /// Returns whether each call whose request is refused fails with [`TreeError::Memory`] and changes nothing: repeated,
 /// it holds, and so do all rows after it.
 pub fn are_swept(alloc: Global, four: &[Row], six: &[Row]) -> bool {
-    is_swept(alloc, |at| refused_once::<CidrTable4<u64>>(alloc, four, at))
-        && is_swept(alloc, |at| refused_once::<CidrTable6<u64>>(alloc, six, at))
+    is_swept(alloc, |at| refused_once::<Cidr4>(alloc, four, at))
+        && is_swept(alloc, |at| refused_once::<Cidr6>(alloc, six, at))
 }
 
 /// Returns whether a new table requests no memory and has no routes.
-pub fn is_made_quietly<T: Table>(alloc: Global) -> bool {
+pub fn is_made_quietly<N: Version>(alloc: Global) -> bool {
     refuse(alloc, 1);
-    let table = T::empty(alloc);
+    let table = Table::<N>::empty(alloc);
     !was_refused(alloc) && table.count() == (0, true)
 }

@@ -2,7 +2,8 @@
 
 use crate::model::{Group, Network, Route, is_alike, is_longest, is_walked, put, take, target_of};
 use crate::tables::Table;
-use rart_cidr::{CidrTable4, CidrTable6};
+use crate::tables::version::Version;
+use rart_cidr::{Cidr4, Cidr6};
 use std::alloc::Global;
 use std::process::Abort;
 
@@ -68,30 +69,35 @@ fn network(number: u64, octets: u8) -> Network {
 }
 
 // Whether table and model answer alike about an address, and about a network.
-fn is_found<T: Table>(table: &T, routes: &[Route], addr: u128, net: Network) -> bool {
+fn is_found<N: Version>(table: &Table<N>, routes: &[Route], addr: u128, net: Network) -> bool {
     let wanted = target_of(routes, &net);
     is_longest(table, routes, addr) && table.target(net) == (wanted, wanted.is_some())
 }
 
 // Whether both have the same walks of the routes inside a network, of those that cover it, and of those that cover an
 // address; at times of all routes.
-fn are_walked<T: Table>(table: &T, given: &mut Vec<Route>, routes: &[Route], number: u64) -> bool {
+fn are_walked<N: Version>(
+    table: &Table<N>,
+    given: &mut Vec<Route>,
+    routes: &[Route],
+    number: u64,
+) -> bool {
     let all = Group::Inside(Network { addr: 0, len: 0 });
-    let net = network(number >> 20, T::OCTETS);
+    let net = network(number >> 20, N::OCTETS);
     is_walked(table, given, routes, Group::Inside(net))
         && is_walked(table, given, routes, Group::Covering(net))
-        && is_alike(table, given, routes, probe(number, T::OCTETS))
+        && is_alike(table, given, routes, probe(number, N::OCTETS))
         && (number % 4096 != 4095 || is_walked(table, given, routes, all))
 }
 
 // Whether a call is answered as by the model.
-fn is_answered<T: Table>(
-    table: &mut T,
+fn is_answered<N: Version>(
+    table: &mut Table<N>,
     given: &mut Vec<Route>,
     routes: &mut Vec<Route>,
     number: u64,
 ) -> bool {
-    let net = network(number >> 20, T::OCTETS);
+    let net = network(number >> 20, N::OCTETS);
     let is_right = match number % 8 {
         0 | 1 => match put(routes, net, number >> 40) {
             Some(was) => matches!(table.put(net, number >> 40), Ok(old) if old == was),
@@ -101,7 +107,7 @@ fn is_answered<T: Table>(
             Ok(old) => old == take(routes, net),
             Err(_) => false,
         },
-        _ => is_found(table, routes.as_slice(), probe(number, T::OCTETS), net),
+        _ => is_found(table, routes.as_slice(), probe(number, N::OCTETS), net),
     };
     is_right
         && table.count() == (routes.len(), routes.is_empty())
@@ -109,8 +115,8 @@ fn is_answered<T: Table>(
 }
 
 // The number of the first call whose answers differ, and the most routes that there were.
-fn play_on<T: Table>(
-    table: &mut T,
+fn play_on<N: Version>(
+    table: &mut Table<N>,
     given: &mut Vec<Route>,
     routes: &mut Vec<Route>,
 ) -> (Option<u32>, usize) {
@@ -127,8 +133,8 @@ fn play_on<T: Table>(
     (wrong, most)
 }
 
-fn play<T: Table>(alloc: Global) -> (Option<u32>, usize) {
-    let mut table = T::empty(alloc);
+fn play<N: Version>(alloc: Global) -> (Option<u32>, usize) {
+    let mut table = Table::<N>::empty(alloc);
     let mut given: Vec<Route> = Vec::new(alloc);
     let mut routes: Vec<Route> = Vec::new(alloc);
     play_on(&mut table, &mut given, &mut routes)
@@ -144,10 +150,10 @@ fn assert_none_wrong(rt: &impl Abort, played: (Option<u32>, usize), least: usize
 
 #[test]
 fn a_table_of_ipv4_networks_and_its_model_answer_alike(rt: HostRuntime) {
-    assert_none_wrong(&rt, play::<CidrTable4<u64>>(rt.alloc()), 900);
+    assert_none_wrong(&rt, play::<Cidr4>(rt.alloc()), 900);
 }
 
 #[test]
 fn a_table_of_ipv6_networks_and_its_model_answer_alike(rt: HostRuntime) {
-    assert_none_wrong(&rt, play::<CidrTable6<u64>>(rt.alloc()), 3500);
+    assert_none_wrong(&rt, play::<Cidr6>(rt.alloc()), 3500);
 }

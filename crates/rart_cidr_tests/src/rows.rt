@@ -2,7 +2,7 @@
 
 use crate::player::{are_swept, assert_none_wrong, is_made_quietly};
 use crate::{each_call, edits, nested, reads, removals, walks};
-use rart_cidr::{CidrTable4, CidrTable6};
+use rart_cidr::{Cidr4, Cidr6};
 
 #[test]
 fn networks_inside_one_another(rt: HostRuntime) {
@@ -59,8 +59,8 @@ fn a_longest_match_reads_each_stride_on_its_way_once(rt: HostRuntime) {
 #[test]
 fn look_ups_and_loans_of_networks_make_no_request(rt: HostRuntime) {
     let alloc = rt.alloc();
-    assert!(rt; is_made_quietly::<CidrTable4<u64>>(alloc));
-    assert!(rt; is_made_quietly::<CidrTable6<u64>>(alloc));
+    assert!(rt; is_made_quietly::<Cidr4>(alloc));
+    assert!(rt; is_made_quietly::<Cidr6>(alloc));
     assert_none_wrong(
         &rt,
         alloc,

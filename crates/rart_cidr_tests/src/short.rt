@@ -2,7 +2,8 @@
 
 use crate::model::{Group, Network, Route, is_alike, is_walked, put};
 use crate::tables::Table;
-use rart_cidr::{CidrTable4, CidrTable6};
+use crate::tables::version::Version;
+use rart_cidr::{Cidr4, Cidr6};
 use std::alloc::Global;
 use std::process::Abort;
 
@@ -18,7 +19,7 @@ fn first_octet(byte: u8) -> u128 {
 }
 
 // Whether an empty table, with this route alone, answers as its model about all first octets.
-fn is_alone<T: Table>(table: &mut T, given: &mut Vec<Route>, net: Network) -> bool {
+fn is_alone<N: Version>(table: &mut Table<N>, given: &mut Vec<Route>, net: Network) -> bool {
     let routes: [Route; 1] = [(net, 7)];
     let mut is_right = matches!(table.put(net, 7), Ok(None)) && table.count() == (1, false);
     for byte in 0..=255_u8 {
@@ -28,7 +29,7 @@ fn is_alone<T: Table>(table: &mut T, given: &mut Vec<Route>, net: Network) -> bo
 }
 
 // How many networks were tried, until one was answered wrong.
-fn count_alone_on<T: Table>(table: &mut T, given: &mut Vec<Route>) -> usize {
+fn count_alone_on<N: Version>(table: &mut Table<N>, given: &mut Vec<Route>) -> usize {
     let mut count = 0_usize;
     let mut is_right = true;
     for len in 0..9_u8 {
@@ -45,7 +46,7 @@ fn count_alone_on<T: Table>(table: &mut T, given: &mut Vec<Route>) -> usize {
 }
 
 // Whether all of them are inserted, the longest first.
-fn are_put<T: Table>(table: &mut T, routes: &mut Vec<Route>) -> bool {
+fn are_put<N: Version>(table: &mut Table<N>, routes: &mut Vec<Route>) -> bool {
     let mut is_right = true;
     for less in 0..9_u8 {
         for byte in 0..=255_u8 {
@@ -61,7 +62,7 @@ fn are_put<T: Table>(table: &mut T, routes: &mut Vec<Route>) -> bool {
 }
 
 // Whether the walk of the routes inside each short network gives them in order.
-fn are_walked<T: Table>(table: &T, given: &mut Vec<Route>, routes: &[Route]) -> bool {
+fn are_walked<N: Version>(table: &Table<N>, given: &mut Vec<Route>, routes: &[Route]) -> bool {
     let mut is_right = true;
     for len in 0..9_u8 {
         for byte in 0..=255_u8 {
@@ -74,8 +75,8 @@ fn are_walked<T: Table>(table: &T, given: &mut Vec<Route>, routes: &[Route]) -> 
 }
 
 // Whether a route is removed, after which table and model answer alike.
-fn is_taken<T: Table>(
-    table: &mut T,
+fn is_taken<N: Version>(
+    table: &mut Table<N>,
     given: &mut Vec<Route>,
     routes: &[Route],
     route: Route,
@@ -87,7 +88,11 @@ fn is_taken<T: Table>(
         && is_alike(table, given, routes, first_octet((target % 256) as u8))
 }
 
-fn are_taken<T: Table>(table: &mut T, given: &mut Vec<Route>, routes: &mut Vec<Route>) -> bool {
+fn are_taken<N: Version>(
+    table: &mut Table<N>,
+    given: &mut Vec<Route>,
+    routes: &mut Vec<Route>,
+) -> bool {
     let mut is_right = true;
     for _ in 0..511_usize {
         match routes.pop() {
@@ -99,8 +104,8 @@ fn are_taken<T: Table>(table: &mut T, given: &mut Vec<Route>, routes: &mut Vec<R
 }
 
 // Whether table and model answer alike with all of them.
-fn are_together_on<T: Table>(
-    table: &mut T,
+fn are_together_on<N: Version>(
+    table: &mut Table<N>,
     given: &mut Vec<Route>,
     routes: &mut Vec<Route>,
 ) -> bool {
@@ -110,14 +115,14 @@ fn are_together_on<T: Table>(
         && table.count() == (0, true)
 }
 
-fn count_alone<T: Table>(alloc: Global) -> usize {
-    let mut table = T::empty(alloc);
+fn count_alone<N: Version>(alloc: Global) -> usize {
+    let mut table = Table::<N>::empty(alloc);
     let mut given: Vec<Route> = Vec::new(alloc);
     count_alone_on(&mut table, &mut given)
 }
 
-fn are_together<T: Table>(alloc: Global) -> bool {
-    let mut table = T::empty(alloc);
+fn are_together<N: Version>(alloc: Global) -> bool {
+    let mut table = Table::<N>::empty(alloc);
     let mut given: Vec<Route> = Vec::new(alloc);
     let mut routes: Vec<Route> = Vec::new(alloc);
     are_together_on(&mut table, &mut given, &mut routes)
@@ -125,12 +130,12 @@ fn are_together<T: Table>(alloc: Global) -> bool {
 
 #[test]
 fn each_short_network_alone(rt: HostRuntime) {
-    assert_eq!(rt; count_alone::<CidrTable4<u64>>(rt.alloc()), 511);
-    assert_eq!(rt; count_alone::<CidrTable6<u64>>(rt.alloc()), 511);
+    assert_eq!(rt; count_alone::<Cidr4>(rt.alloc()), 511);
+    assert_eq!(rt; count_alone::<Cidr6>(rt.alloc()), 511);
 }
 
 #[test]
 fn all_short_networks_together(rt: HostRuntime) {
-    assert!(rt; are_together::<CidrTable4<u64>>(rt.alloc()));
-    assert!(rt; are_together::<CidrTable6<u64>>(rt.alloc()));
+    assert!(rt; are_together::<Cidr4>(rt.alloc()));
+    assert!(rt; are_together::<Cidr6>(rt.alloc()));
 }

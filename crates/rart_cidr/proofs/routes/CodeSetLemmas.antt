@@ -1,8 +1,10 @@
 -- The set of the codes of a stride, as edits change it.
-use Rattle.std.proofs.Common.{◌≡◌, ℕ, ◌<◌, ◌==◌, ⊎_elim, Bool, true, false, List, [], ◌∷◌, refl, sym, ap, ◌∙◌, Some, None, Option}
+use Rattle.std.proofs.Common.{◌≡◌, ℕ, ◌<◌, ◌==◌, ⊎_elim, Bool, true, false, List, [], ◌∷◌, refl, sym, ap, ◌∙◌}
+use Rattle.std.proofs.Common.{Some, None, Option}
 use Rattle.std.specs.Prelude.{◌&&◌, ◌||◌, not, is_some}
 use Rattle.rart_keys.specs.SortedMap.{lookup, put, without}
-use Rattle.rart_keys.proofs.maps.SortedMaps.{lookup-put_at, lookup-put_elsewhere, lookup-without_at, lookup-without_elsewhere}
+use Rattle.rart_keys.proofs.maps.SortedMaps.{lookup-put_at, lookup-put_elsewhere}
+use Rattle.rart_keys.proofs.maps.SortedMaps.{lookup-without_at, lookup-without_elsewhere}
 use Rattle.rart_keys.proofs.strings.ByteOrder.{eq-no, eq-yes, equal_or_not}
 use Rattle.rart_cidr.specs.CodeSets.{AreCodesOf}
 use Rattle.rart_parts.specs.Bits.{words_have}

@@ -1,11 +1,8 @@
-//! Tables of IPv6 networks.
+//! Networks of IPv6.
 
-use crate::model::{Group, Network, Route};
-use crate::tables::{Reads, Table};
-use rart::{Refused, TreeError};
+use crate::tables::version::Version;
+use rart::TreeError;
 use rart_cidr::{Cidr6, CidrError, CidrTable6, Matches6, ParseCidrError, Routes6};
-use rart_test_trees::tally::Tally;
-use std::alloc::Global;
 use std::cmp::Ordering;
 use std::net::Ipv6Addr;
 use std::str::FromStr;
@@ -14,133 +11,45 @@ fn address(addr: u128) -> Ipv6Addr {
     Ipv6Addr::from_bits(addr)
 }
 
-fn cidr(net: Network) -> Cidr6 {
-    Cidr6::masked(address(net.addr), net.len.min(128))
-}
-
-fn network_of(net: &Cidr6) -> Network {
-    Network {
-        addr: net.addr().to_bits(),
-        len: net.len(),
-    }
-}
-
-fn route_of(found: Option<(Cidr6, &u64)>) -> Option<Route> {
-    match found {
-        Some((net, target)) => Some((network_of(&net), *target)),
-        None => None,
-    }
-}
-
-fn add_matches(walk: Matches6<'_, u64>, given: &mut Vec<Route>) {
-    for (net, target) in walk {
-        let _added = given.push((network_of(&net), *target));
-    }
-}
-
-fn add_routes(walk: Routes6<'_, u64>, given: &mut Vec<Route>) {
-    for (net, target) in walk {
-        let _added = given.push((network_of(&net), *target));
-    }
-}
-
-impl Table for CidrTable6<u64> {
+impl Version for Cidr6 {
     const OCTETS: u8 = 16;
 
-    fn empty(alloc: Global) -> Self {
-        CidrTable6::new(alloc)
-    }
-
-    fn address(text: &str) -> Option<u128> {
+    fn host_of(text: &str) -> Option<Self> {
         match Ipv6Addr::from_str(text) {
-            Ok(addr) => Some(network_of(&Cidr6::host(addr)).addr),
+            Ok(addr) => Some(Cidr6::host(addr)),
             Err(_) => None,
         }
     }
 
-    fn parse(text: &str) -> Result<Network, ParseCidrError> {
-        match Cidr6::from_str(text) {
-            Ok(net) => Ok(network_of(&net)),
-            Err(error) => Err(error),
-        }
+    fn parse(text: &str) -> Result<Self, ParseCidrError> {
+        Cidr6::from_str(text)
     }
 
-    fn network(addr: u128, len: u8) -> Result<Network, CidrError> {
-        match Cidr6::new(address(addr), len) {
-            Ok(net) => Ok(network_of(&net)),
-            Err(error) => Err(error),
-        }
+    fn new(addr: u128, len: u8) -> Result<Self, CidrError> {
+        Cidr6::new(address(addr), len)
     }
 
-    fn supernet(net: Network, len: u8) -> Network {
-        let net = cidr(net);
-        network_of(&net.supernet(len.min(net.len())))
+    fn masked(addr: u128, len: u8) -> Self {
+        Cidr6::masked(address(addr), len.min(128))
     }
 
-    fn order(left: Network, right: Network) -> (Ordering, Ordering, bool) {
-        let (left, right) = (cidr(left), cidr(right));
-        (left.cmp_bits(&right), left.cmp(&right), left == right)
+    fn first(&self) -> u128 {
+        self.addr().to_bits()
     }
 
-    fn put(&mut self, net: Network, target: u64) -> Result<Option<u64>, Refused<u64>> {
-        self.insert(&cidr(net), target)
+    fn cmp_bits(&self, other: &Self) -> Ordering {
+        self.cmp_bits(other)
     }
 
-    fn take(&mut self, net: Network) -> Result<Option<u64>, TreeError> {
-        self.remove(&cidr(net))
+    fn longest_match(table: &CidrTable6<u64>, addr: u128) -> Option<(Self, &u64)> {
+        table.longest_match(address(addr))
     }
 
-    fn write(&mut self, net: Network, target: u64) -> Option<u64> {
-        match self.get_mut(&cidr(net)) {
-            Some(stored) => {
-                let old = *stored;
-                *stored = target;
-                Some(old)
-            }
-            None => None,
-        }
+    fn matches(table: &CidrTable6<u64>, addr: u128) -> Matches6<'_, u64> {
+        table.matches(address(addr))
     }
 
-    fn remove_all(&mut self) {
-        self.clear();
-    }
-
-    fn count(&self) -> (usize, bool) {
-        (self.len(), self.is_empty())
-    }
-
-    fn target(&self, net: Network) -> (Option<u64>, bool) {
-        let net = cidr(net);
-        (self.get(&net).copied(), self.contains_key(&net))
-    }
-
-    fn longest(&self, addr: u128) -> Option<Route> {
-        route_of(self.longest_match(address(addr)))
-    }
-
-    fn longest_of_net(&self, net: Network) -> (Option<Route>, Option<Route>) {
-        let net = cidr(net);
-        (
-            route_of(self.longest_match_net(&net)),
-            route_of(self.longest_by_lengths(&net)),
-        )
-    }
-
-    fn longest_counted(&self, net: Network) -> Reads {
-        let (mut nodes, mut strides) = (Tally::new(), Tally::new());
-        let found = self
-            .seen::<Tally>()
-            .longest_match_net_counted(&cidr(net), &mut nodes, &mut strides);
-        (route_of(found), nodes.number, strides.number)
-    }
-
-    fn walk(&self, group: Group, given: &mut Vec<Route>) -> Result<(), TreeError> {
-        match group {
-            Group::Around(addr) => add_matches(self.matches(address(addr)), given),
-            Group::Covering(net) => add_matches(self.matches_net(&cidr(net)), given),
-            Group::Inside(net) => add_routes(self.within(&cidr(net))?, given),
-            Group::All => add_routes(self.iter()?, given),
-        }
-        Ok(())
+    fn iter(table: &CidrTable6<u64>) -> Result<Routes6<'_, u64>, TreeError> {
+        table.iter()
     }
 }

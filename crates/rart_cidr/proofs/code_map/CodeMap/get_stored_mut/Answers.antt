@@ -8,7 +8,8 @@ use Rattle.rart_cidr.proofs.code_map.CodeMap.get_stored_mut.Goals as goal
 pub invariant_of-self-lent : goal.invariant_of-self-lent
 invariant_of-self-lent g c =
     let old = c.self.inside.targets.pairs in let words = c.self.inside.codes.words in
-    let stored : lookup (c.args.code ∷ []) old ≢ None = λ e. c.requires.stored (sym (ap (lookup (c.args.code ∷ [])) c.self.view_is) ∙ e) in
+    let stored : lookup (c.args.code ∷ []) old ≢ None
+    = λ e. c.requires.stored (sym (ap (lookup (c.args.code ∷ [])) c.self.view_is) ∙ e) in
     λ _. (
       λ w.
           let left = lent_some c.get_mut.result _ c.get_mut.ensures.value

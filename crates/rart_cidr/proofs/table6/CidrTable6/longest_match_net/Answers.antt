@@ -1,7 +1,0 @@
-use Rattle.rart_cidr.specs.Networks.{cidr_bits}
-use Rattle.rart_cidr.proofs.walks.LongestLemmas.{longest-route}
-use Rattle.rart_cidr.proofs.table6.CidrTable6.longest_match_net.Goals as goal
-
-pub returns-clause-longest_match : goal.returns-clause-longest_match
-returns-clause-longest_match g c = longest-route (cidr_bits c.args.net.now) c.args.self.now _ c.ascends.ensures
-    (rw c.seen.ensures at c.longest_match_net_counted.ensures.value)
