@@ -4,8 +4,8 @@
 usage: unused_names.py [--check]
 
 A name that only its own declaration uses counts as unused. Answers to goals, examples and words of specs/ are not
-listed: the checker reads the first, and people the others. The last line has both numbers. With --check the status is 1 unless
-both are 0.
+listed: the checker reads the first, and people the others. The last line has both numbers. With --check the status is
+1 unless both are 0.
 """
 import pathlib
 import re
@@ -95,9 +95,8 @@ def main(arguments):
             continue
         lines = text.splitlines()
         for name, is_pub, own in declarations(text):
-            here = any(
-                name in TOKEN.findall(line) for at, line in enumerate(lines) if at not in own and "use Rattle" not in line
-            )
+            others = (line for at, line in enumerate(lines) if at not in own and "use Rattle" not in line)
+            here = any(name in TOKEN.findall(line) for line in others)
             place = f"{path.relative_to(TOP)}: {name}"
             if (module_of(path), name) in elsewhere:
                 continue
