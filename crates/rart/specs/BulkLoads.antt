@@ -35,7 +35,7 @@ FailsSorted es Full = (first_fault es ≡ None) × (length (last_wins es) ≡ MA
     × BeforeLast (λ before. length (last_wins before) ≡ MAX_PAIRS) es
 FailsSorted es (Unsorted at) = (i : ℕ) × (first_fault es ≡ Some i) × (length es ≡ i + 1) × (at ≡ min i (2 ^ 64 - 1))
 
--- the same, of pairs that ascend strictly
+-- `FailsSorted` for pairs that ascend strictly
 abbrev pub FailsUnique : {V : Type 0} → List (List ℕ × V) → BulkError → Type 0
 FailsUnique es Memory = (es ≢ []) × (length es ≤ MAX_PAIRS)
 FailsUnique es Full = length es ≡ MAX_PAIRS + 1
@@ -60,7 +60,7 @@ abbrev pub FailsAtItem : {A V : Type 0} → List (List ℕ) → List V → List 
 FailsAtItem {A} {V} ks vs k v at r = (es : List (List ℕ × V)) → WasRead es ks vs → at ≡ min (length es) (2 ^ 64 - 1)
     → IfErr r (FailsSorted (es ++ (k, v) ∷ []))
 
--- so many keys are refused so
+-- how a load of `len` keys by index is refused
 abbrev pub FailsByIndex : ℕ → BulkError → Type 0
 FailsByIndex len Memory = (0 < len) × (len ≤ MAX_PAIRS)
 FailsByIndex len Full = MAX_PAIRS < len
@@ -70,8 +70,8 @@ FailsByIndex len (Unsorted at) = ⊥
 abbrev pub AreKeysAt : (ℕ → List ℕ → Type 0) → List (List ℕ) → Type 0
 AreKeysAt At ks = (i : ℕ) → i < length ks → At i (slice_index_or ks i [])
 
--- a load of so many keys that failed called f at a beginning of the indices, in order, which left g; where it was full
--- it called nothing
+-- a load of `len` keys that failed called f at a beginning of the indices, in order, which left g; where it was full it
+-- called nothing
 abbrev pub TakesBeginning : {F V : Type 0} → (F → ℕ → V → F → Type 0) → ℕ → F → F → BulkError → Type 0
 TakesBeginning {F} {V} step len f g Memory = (taken : List V) × (length taken ≤ len) × Takes step 0 f taken g
 TakesBeginning step len f g Full = g ≡ f

@@ -39,7 +39,7 @@ IsNotInserted map key value (not_inserted.Stored proposed) = (proposed ≡ value
 IsNotInserted map key value (not_inserted.Refused refused) = (refused.value ≡ value) × MayRefuseInsert map key
     refused.error
 
--- the same, with a reference to the stored value
+-- `IsNotInserted`, with a reference to the stored value
 abbrev pub ShowsWhy : {V : Type 0} → List (List ℕ × V) → List ℕ → V → TryInsertError V → Type 0
 ShowsWhy map key value (try_insert.Occupied proposed present) = (proposed ≡ value) × (lookup key map ≡ Some present.now)
 ShowsWhy map key value (try_insert.Refused refused) = (refused.value ≡ value) × MayRefuseInsert map key refused.error

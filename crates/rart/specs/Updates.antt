@@ -72,7 +72,7 @@ abbrev pub Updates : {F V : Type 0} → Once F (MutBor (Slot V) × Unit {0}) (Sl
     → F → List ℕ → List (List ℕ × V) → Result Bool (UpdateError V) → List (List ℕ × V) → Type 0
 Updates g f key old result new = AnswersSo g f (lookup key old) (λ r w. IsUpdate key r w old result new)
 
--- the same with the outcome in place of whether the key was stored, of a callback that returns something more
+-- `Updates` with the outcome in place of whether the key was stored, of a callback that returns something more
 abbrev pub UpdatesReturning : {F X V : Type 0}
     → Once F (MutBor (Slot V) × Unit {0}) ((SlotUpdate V × X) × (MutBor (Slot V) × Unit {0})) → F → List ℕ
     → List (List ℕ × V) → Result (Outcome V) (UpdateError V) × X → List (List ℕ × V) → Type 0
@@ -123,7 +123,7 @@ written_slot w Vacant = Vacant
 written_slot None (Occupied v) = Occupied v
 written_slot (Some w) (Occupied v) = Occupied w
 
--- the same, of what is stored at the key
+-- `written_slot` for what is stored at the key
 abbrev pub left_by : {V : Type 0} → Option V → Option V → Option V
 left_by w None = None
 left_by None (Some v) = Some v

@@ -189,7 +189,7 @@ impl<K: KeyTrait, T> RouteTable<K, T> {
         self.routes.iter()
     }
 
-    /// Returns an iterator over the routes from both ends, which counts what is left.
+    /// Returns an iterator over the routes from both ends, which counts the remaining routes.
     ///
     /// # Errors
     ///

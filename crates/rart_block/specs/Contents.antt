@@ -11,7 +11,7 @@ abbrev pub contents_code : {H K T : Type 0} → Coded H → Coded K → Coded T 
 contents_code {H} {K} {T} h k t = code_by (H × (K × List T)) (coded× h (coded× k (coded_list t)))
     (λ c. (c.head, (c.keys, c.items))) (λ p. record { head = p.0; keys = p.1.0; items = p.1.1 }) (λ _. refl)
 
--- the same with another header, other keys, other items
+-- contents with another header, other keys, other items
 abbrev pub with_head : {H K T : Type 0} → Contents H K T → H → Contents H K T
 with_head c h = record { head = h; keys = c.keys; items = c.items }
 

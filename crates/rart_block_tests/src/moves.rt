@@ -1,4 +1,4 @@
-//! What moves from one block to another, what is written to the header, and what is left of an empty block.
+//! What moves from one block to another, what is written to the header, and the rest of an empty block.
 
 use rart_block::Block;
 use std::alloc::Global;

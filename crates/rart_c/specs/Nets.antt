@@ -1,5 +1,5 @@
 -- What the calls on a table of networks return and write, and the routes afterwards. A network is the first `len` of
--- the bits of an address, if there are so many and the others are zeros.
+-- the bits of an address, if it has that many and the others are zeros.
 use Rattle.std.specs.Prelude.{◌≡◌, ◌≢◌, ◌<◌, ◌≤◌, ℕ, Bool, List, length, take, option_map, None, Some}
 use Rattle.rart_keys.specs.Filters.{longest_match}
 use Rattle.rart_keys.specs.SortedMap.{lookup, put, without}

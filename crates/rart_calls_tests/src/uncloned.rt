@@ -42,7 +42,7 @@ fn cloned_table(table: &Table<'_>) -> Option<usize> {
     }
 }
 
-// What a clone of so many pairs returns where so many values can be cloned.
+// What a clone of `count` pairs returns where `clones` values can be cloned.
 fn wanted(count: u8, clones: usize) -> Option<usize> {
     (clones >= usize::from(count)).then_some(usize::from(count))
 }

@@ -21,7 +21,7 @@ fn take(pairs: &mut IntoPairs<ArrayKey<1>, Counted<'_>>, most: usize) {
     }
 }
 
-// How many values are dropped once so many pairs are taken, and once the others are dropped.
+// How many values are dropped once `most` pairs are taken, and once the others are dropped.
 fn dropped(alloc: Global, count: u8, most: usize) -> Option<(usize, usize)> {
     let drops = Cell::new(0_usize);
     match counts(alloc, &drops, count).into_pairs() {

@@ -92,7 +92,7 @@ fn a_dropped_iterator_changes_nothing(rt: HostRuntime) {
     assert!(rt; is_unchanged_by_a_dropped_iterator(&tree));
 }
 
-// The values ascend, and are so many.
+// Whether the values ascend, and are `count`.
 fn ascend(values: &mut ValuesIter<'_, Key, u64>, count: usize) -> bool {
     let mut last = None;
     let mut many = 0_usize;

@@ -16,7 +16,7 @@ bytes_eq (x ∷ xs) (y ∷ ys) = if x == y then bytes_eq xs ys else false
 abbrev pub IsLess : List ℕ → List ℕ → Type 0
 IsLess k l = slice_cmp nat_cmp k l ≡ Less
 
--- what is left of k after p, or None where p doesn't begin k
+-- the rest of k after p, or None where p doesn't begin k
 abbrev pub strip_prefix : List ℕ → List ℕ → Option (List ℕ)
 strip_prefix [] k = Some k
 strip_prefix (x ∷ p) [] = None

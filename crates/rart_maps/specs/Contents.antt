@@ -11,6 +11,6 @@ abbrev pub contents_code : {N E : Type 0} → Coded N → Coded E → Coded (Con
 contents_code {N} {E} n e = code_by (E × List (ℕ × N)) (coded× e (coded_list (coded× coded_ℕ n)))
     (λ c. (c.extra, c.entries)) (λ p. record { extra = p.0; entries = p.1 }) (λ _. refl)
 
--- the same with another extra value
+-- contents with another extra value
 abbrev pub with_extra : {N E : Type 0} → Contents N E → E → Contents N E
 with_extra c e = record { extra = e; entries = c.entries }

@@ -44,8 +44,8 @@ Agrees capacity has os = (i : ℕ) → i < capacity → has i ≡ is_used os i
 abbrev pub AgreesIfAny : {X : Type 0} → ℕ → (ℕ → Bool) → List (Option X) → Type 0
 AgreesIfAny capacity has os = (k : ℕ) → k < capacity → has k ≡ true → Agrees capacity has os
 
--- so many places, a set that can hold them and whose positions fit a machine's number, and the set is that of the
--- used places if it has any
+-- `width` places, a set that can hold them and whose positions fit a machine's number, and the set is that of the used
+-- places if it has any
 pub record IsBitArray {X : Type 0} (width capacity : ℕ) (has : ℕ → Bool) (os : List (Option X)) : Type 0 where
   pub full : length os ≡ width
   pub covers : width ≤ capacity

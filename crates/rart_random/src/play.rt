@@ -14,7 +14,7 @@ pub struct Case {
     pub seed: u64,
     /// How many calls.
     pub calls: u64,
-    /// One of so many calls has a request for memory refused; 0: none.
+    /// One call in this many has a request for memory refused; 0: none.
     pub refused: u64,
 }
 

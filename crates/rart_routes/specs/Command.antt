@@ -77,7 +77,7 @@ IsCommandOf verb.Len operands (Err e) = (operands ≢ []) × (e ≡ error.Comman
 -- no other command
 IsCommandOf verb operands result = ⊥
 
--- the same, where the first word is a name
+-- `IsCommandOf`, where the first word is a name
 abbrev pub IsNamed : Option Verb → List (List ℕ) → Result Command LineError → Type 0
 IsNamed None operands result = result ≡ Err error.Command
 IsNamed (Some verb) operands result = IsCommandOf verb operands result

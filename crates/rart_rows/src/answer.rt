@@ -8,7 +8,7 @@ use std::alloc::Global;
 /// The most bytes of an answer; they are requested once, so that no answer requests memory.
 const ROOM: usize = 1 << 18;
 
-/// From so many equal bytes on a key is written with their count.
+/// A key of this many equal bytes, or more, is written with their count.
 const LONG: u64 = 16;
 
 /// The last items of a list, where each follows the one before it: its value is one more, and so is the last byte of

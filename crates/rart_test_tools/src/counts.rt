@@ -11,7 +11,7 @@ pub struct Counts {
 }
 
 impl Counts {
-    /// No drop so far, and so many clones left.
+    /// No drop yet, and `clones` clones left.
     pub fn new(clones: usize) -> Self {
         Counts {
             drops: Cell::new(0_usize),

@@ -106,7 +106,7 @@ fn reads_no_further(alloc: Global, items: &[(Key, u64)], form: Form) -> bool
     false
 }
 
-// The first so many items.
+// The first items.
 fn first_items(alloc: Global, many: usize) -> Result<Vec<(Key, u64)>, AllocError> {
     let mut items = Vec::new(alloc);
     for (text, value) in &ITEMS[..many.min(ITEMS.len())] {
@@ -143,7 +143,7 @@ fn has_length(loaded: Result<Tree<Key>, BulkError>, many: usize) -> bool {
     }
 }
 
-// How often each key was requested, and how often its value was taken, by a load that gives so many keys.
+// How often each key was requested, and how often its value was taken, by a load that gives `many` keys.
 fn calls_of_items(alloc: Global, items: &[(Key, u64)], many: usize) -> Option<(usize, usize)> {
     if !ascend(items) {
         return None;
@@ -156,7 +156,7 @@ fn calls_of_items(alloc: Global, items: &[(Key, u64)], many: usize) -> Option<(u
     has_length(loaded, many).then_some((key_calls.get(), taken.get()))
 }
 
-// The same of the first so many items.
+// What `calls_of_items` counts of the first items.
 fn calls_of(alloc: Global, many: usize) -> Result<Option<(usize, usize)>, AllocError> {
     let items = first_items(alloc, many)?;
     Ok(calls_of_items(alloc, &items, many))

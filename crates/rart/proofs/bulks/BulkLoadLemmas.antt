@@ -140,7 +140,7 @@ pub reads-more : {U S A : Type 0} (becomes : U → S → Type 0) (steps : S → 
 reads-more becomes steps items P s t u xs x o b y e h p
     = (s, xs ++ x ∷ [], u, b, Yields-more steps s xs t x u y (rw e at h), p)
 
--- items that ascend strictly: an item after so many, of which all were kept
+-- items that ascend strictly: an item after others, all of which were kept
 module _ {K V : Type 0} (bytes : K → List ℕ) (xs : List (K × V)) (x : K × V) (keys : List K)
     (same : map bytes keys ≡ keys_of (pairs_in bytes xs)) where
   unique-length : length (pairs_in bytes (xs ++ x ∷ [])) ≡ length keys + 1

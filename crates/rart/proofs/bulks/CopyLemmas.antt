@@ -18,7 +18,7 @@ module _ {A : Type 0} where
   pub copied-all : (copied rest all : List A) → all ≡ copied ++ rest → rest ≡ [] → all ≡ copied
   copied-all copied rest all whole none = whole ∙ ap (λ z. copied ++ z) none ∙ append-nil copied
 
--- the reserved capacity holds what is left beside what is copied
+-- the reserved capacity holds the rest beside what is copied
 module _ {A B : Type 0} where
   pub capacity-begins : (copied : List A) (rest all : List B) (capacity : ℕ) → copied ≡ [] → rest ≡ all
       → length all ≤ capacity → length copied + length rest ≤ capacity

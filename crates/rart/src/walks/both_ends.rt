@@ -1,4 +1,4 @@
-//! An iterator over all pairs of a tree from both ends, which counts what is left.
+//! An iterator over all pairs of a tree from both ends, which counts the remaining pairs.
 ghost use Rattle.std.specs.Prelude.{◌≡◌, ◌≤◌, ◌++◌, [], ◌∷◌, length, Some, IfErr, IfOk, IfSome};
 ghost use Rattle.std.specs.Iterator.{UpTo, YieldsFirstBy, YieldsLastBy, item_count};
 ghost use Rattle.std.specs.Iterator.SizeHint.{IsWithinCount};
@@ -95,7 +95,7 @@ impl<'a, K: KeyTrait, V> ExactSizeIterator for BothEnds<'a, K, V> {
 impl<'a, K: KeyTrait, V> FusedIterator for BothEnds<'a, K, V> {}
 
 impl<K: KeyTrait, V> AdaptiveRadixTree<K, V> {
-    /// Returns an iterator over the pairs from both ends, which counts what is left.
+    /// Returns an iterator over the pairs from both ends, which counts the remaining pairs.
     ///
     /// Allocates here, for two paths of the longest key, and nothing for an empty tree; the iterator itself allocates
     /// nothing.

@@ -168,8 +168,8 @@ fn count_made(rows: &[Row]) -> usize {
     made
 }
 
-// The first row that fails on a tree of three keys and so many clones, if one does; one past the last where not all
-// values are dropped with the tree.
+// The first row that fails on a tree of three keys where `clones` values can be cloned, if one does; one past the last
+// where not all values are dropped with the tree.
 fn first_wrong(alloc: Global, clones: usize, rows: &[Row]) -> Option<usize> {
     let counts = Counts::new(clones);
     let mut tree = filled(alloc, &counts, 3);

@@ -5,7 +5,7 @@ use rart_test_trees::texts::{Key, Tree};
 use std::alloc::Global;
 use std::ops::Bound;
 
-// Inserts so many one-byte keys, every second byte from 2 on, each its own value.
+// Inserts `count` keys of one byte, every second byte from 2 on, each its own value.
 pub(super) fn insert_spaced(tree: &mut Tree, count: usize) -> bool {
     for byte in 0..=255_u8 {
         let number = usize::from(byte);
@@ -19,7 +19,7 @@ pub(super) fn insert_spaced(tree: &mut Tree, count: usize) -> bool {
     true
 }
 
-// Whether the values from this byte on come, up to the last of so many.
+// Whether the values from this byte on come, up to the last of the `count` keys.
 fn counts_up(range: &mut Range<'_, Key, u64>, from: usize, count: usize) -> bool {
     for number in from..257_usize {
         if number >= 2 && number % 2 == 0 && number / 2 <= count {

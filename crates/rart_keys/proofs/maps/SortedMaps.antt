@@ -150,7 +150,7 @@ module _ {V : Type 0} where
         | false ↦ refl
       ]))
 
-  -- a new key that is taken out again leaves the list as it was
+  -- a new key that is taken out again leaves the list unchanged
   pub without-put : (k : List ℕ) (v : V) (es : List (List ℕ × V)) → IsAscending es → lookup k es ≡ None
       → without k (put k v es) ≡ es
   without-put k v es h none = equal_by_lookups (without k (put k v es)) es

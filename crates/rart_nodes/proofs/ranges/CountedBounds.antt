@@ -117,7 +117,7 @@ module _ {V : Type 0} where
   path_some None t = 0
   path_some (Some a) t = path_count a t
 
-  -- the same among children
+  -- how many nodes the path to some bytes has among children
   abbrev path_by : List ℕ → Children V → ℕ
   path_by [] cs = 0
   path_by (b ∷ s) cs = descend_child counts b (b ∷ s) cs

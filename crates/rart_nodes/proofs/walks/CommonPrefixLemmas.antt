@@ -82,7 +82,7 @@ module _ {V : Type 0} where
     longest = longest-root (node p v n cs) w;
   }
 
-  -- the same of a node whose keys follow a string
+  -- `common-root` for a node whose keys follow a string
   pub common-part : (q : List ℕ) (u : Trie V) → IsCanonical u
       → IsCommonPrefix (q ++ prefix_of u) (keys_of (with_prefix q (pairs_of u)))
   common-part q (node p v n cs) w = rw (prefix-twice q p (own_pair v ++ children_pairs cs))

@@ -63,7 +63,7 @@ with_own_pair v w es = own_pair (both v w) ++ es
 abbrev pub intersect_nodes : {V W : Type 0} → Trie V → Trie W → List (List ℕ × (V × W))
 intersect_nodes t u = pair_tries intersected_maps with_own_pair t u
 
--- the same step by step
+-- `intersect_nodes`, step by step
 abbrev pub intersect_prefixes : {X : Type 0} → List ℕ → List ℕ → List (List ℕ × X) → (ℕ → List ℕ → List (List ℕ × X))
     → (ℕ → List ℕ → List (List ℕ × X)) → List (List ℕ × X)
 intersect_prefixes {X} p q ended f g = pair_prefixes (intersected_maps {X = X}).apart

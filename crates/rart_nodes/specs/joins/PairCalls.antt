@@ -27,7 +27,7 @@ module _ {F V W : Type 0} (g : Mut F (Bor V × (Bor W × Unit {0})) (Unit {0})) 
   abbrev pub CallsWithEach : F → List (V × W) → F → Type 0
   CallsWithEach f xs f' = FoldsTo (λ p x q. CalledWith g p x q) f xs f'
 
-  -- the same of an f taken by value
+  -- `CallsWithEach` for an f taken by value
   abbrev pub CallsWithEachByValue : F → List (V × W) → Type 0
   CallsWithEachByValue f xs = CallsEach (λ p x q. CalledWith g p x q) f xs
 
@@ -56,6 +56,6 @@ module _ {F K V W : Type 0} (g : Mut F (K × (Bor V × (Bor W × Unit {0}))) (Un
   abbrev pub CallsAtEach : F → List (List ℕ × (V × W)) → F → Type 0
   CallsAtEach f xs f' = FoldsTo (λ p x q. CalledAt g bytes p x q) f xs f'
 
-  -- the same of an f taken by value
+  -- `CallsAtEach` for an f taken by value
   abbrev pub CallsAtEachByValue : F → List (List ℕ × (V × W)) → Type 0
   CallsAtEachByValue f xs = CallsEach (λ p x q. CalledAt g bytes p x q) f xs

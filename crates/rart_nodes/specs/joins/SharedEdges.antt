@@ -49,7 +49,7 @@ counts_visits = record { apart = 0; shared = λ x n. n; also = λ m n. m + n; en
 abbrev pub more_visits : {V W : Type 0} → Trie V → Trie W → ℕ
 more_visits t u = pair_tries counts_visits (λ v w n. n) t u
 
--- the same step by step
+-- `more_visits`, step by step
 abbrev pub count_prefixes : List ℕ → List ℕ → ℕ → (ℕ → List ℕ → ℕ) → (ℕ → List ℕ → ℕ) → ℕ
 count_prefixes p q ended f g = pair_prefixes 0 (λ x n. n) p q ended f g
 

@@ -32,6 +32,6 @@ module _ {F V W : Type 0} (g : Mut F (LendingKeyView × (Bor V × (Bor W × Unit
   abbrev pub ViewsAtEach : F → List (List ℕ × (V × W)) → F → Type 0
   ViewsAtEach f xs f' = FoldsTo (λ p x q. ViewedAt g p x q) f xs f'
 
-  -- the same of an f taken by value
+  -- `ViewsAtEach` for an f taken by value
   abbrev pub ViewsAtEachByValue : F → List (List ℕ × (V × W)) → Type 0
   ViewsAtEachByValue f xs = CallsEach (λ p x q. ViewedAt g p x q) f xs

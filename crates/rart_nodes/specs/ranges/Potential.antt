@@ -21,7 +21,7 @@ amortized_visits [] = 0
 amortized_visits (l ∷ []) = 0
 amortized_visits (l ∷ m ∷ ls) = up_to_one l.0 + amortized_visits (m ∷ ls)
 
--- one more than these where no child of the deepest level is being walked: what is left of its children pays for one
+-- one more than these where no child of the deepest level is being walked: the rest of its children pays for one
 -- that was walked
 abbrev pub potential : {V : Type 0} → List (Level V) → ℕ
 potential [] = 0

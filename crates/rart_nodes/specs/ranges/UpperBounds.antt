@@ -10,7 +10,7 @@ use Rattle.rart_trie.specs.walks.Walk.{SegmentList, joined_bytes}
 abbrev pub entries_until : {V : Type 0} → Bool → List ℕ → List (SegmentList × V) → List (SegmentList × V)
 entries_until h s es = filter (λ e. is_until h s (joined_bytes e.0)) es
 
--- the same of pairs
+-- `entries_until` for pairs
 abbrev pub pairs_until : {V : Type 0} → Bool → List ℕ → List (List ℕ × V) → List (List ℕ × V)
 pairs_until h s es = filter (λ e. is_until h s e.0) es
 

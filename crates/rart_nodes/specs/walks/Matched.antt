@@ -27,6 +27,6 @@ module _ {F V : Type 0} (g : Mut F (Bor (List ℕ) × (Bor V × Unit {0})) (Unit
   abbrev pub MatchesEach : F → List (List ℕ × V) → F → Type 0
   MatchesEach f xs f' = FoldsTo (λ p x q. Matched g p x q) f xs f'
 
-  -- the same of an f taken by value
+  -- `MatchesEach` for an f taken by value
   abbrev pub MatchesEachByValue : F → List (List ℕ × V) → Type 0
   MatchesEachByValue f xs = CallsEach (λ p x q. Matched g p x q) f xs

@@ -29,7 +29,7 @@ matches_ahead q d o = with_prefix (take d q) (tree_matches (drop d q) o)
 abbrev pub entered_ahead : {V : Type 0} → List ℕ → ℕ → Option (Trie V) → ℕ
 entered_ahead q d o = tree_entered (drop d q) o
 
--- the same of a descent
+-- the matches and the nodes that are ahead of a descent
 abbrev pub matches_left : {P V C : Type 0} {G : Ghosts P} → List ℕ → Matching P V C G → List (List ℕ × V)
 matches_left q m = matches_ahead q m.depth (option_map (λ s. s.node.now) m.below)
 

@@ -20,7 +20,7 @@ module _ {F V : Type 0} (g : Mut F (Bor V × Unit {0}) (Unit {0})) where
   abbrev pub ShowsEach : F → List V → F → Type 0
   ShowsEach f xs f' = FoldsTo (λ p x q. Shown g p x q) f xs f'
 
-  -- the same of an f taken by value
+  -- `ShowsEach` for an f taken by value
   abbrev pub ShowsEachByValue : F → List V → Type 0
   ShowsEachByValue f xs = CallsEach (λ p x q. Shown g p x q) f xs
 
@@ -43,6 +43,6 @@ module _ {F S V : Type 0} (g : Mut F (S × (Bor V × Unit {0})) S) where
   abbrev pub FoldsEach : F → S → List V → F → S → Type 0
   FoldsEach f s xs f' r = FoldsTo {P = F × S} (λ p x q. Folded g p x q) (f, s) xs (f', r)
 
-  -- the same of an f taken by value
+  -- `FoldsEach` for an f taken by value
   abbrev pub FoldsEachByValue : F → S → List V → S → Type 0
   FoldsEachByValue f s xs r = (f' : F) × FoldsEach f s xs f' r

@@ -43,7 +43,7 @@ EndsAfter {F} {V} {E} g f (v ∷ vs) n r f' = (shown : Bor V)
     × ((shown.now ≡ v) × (Called g f (shown, tt) answer next
     × CountsCall answer next n (λ h m. EndsAfter g h vs m r f') r f'))))
 
--- the same of a walk whose allocation can also be refused, and that then calls nothing
+-- `EndsAfter` for a walk whose allocation can also be refused, and that then calls nothing
 abbrev pub EndsVisit : {F V E : Type 0} → Mut F (Bor V × Unit {0}) (Result VisitControl E) → F → List V
     → Result (Unit {0}) (VisitError E) → F → Type 0
 EndsVisit g f vs (Ok u) f' = EndsAs g f vs (Ok tt) f'
@@ -61,7 +61,7 @@ abbrev pub CallsSo : {F V E : Type 0} → Mut F (Bor V × Unit {0}) (Result Visi
     → Result (Unit {0}) (VisitError E) → F → (ℕ → Type 0) → Type 0
 CallsSo g f vs r f' P = (n : ℕ) × (EndsVisitAfter g f vs n r f' × P n)
 
--- the same of an f taken by value
+-- `CallsSo` for an f taken by value
 abbrev pub CallsSoByValue : {F V E : Type 0} → Mut F (Bor V × Unit {0}) (Result VisitControl E) → F → List V
     → Result (Unit {0}) (VisitError E) → (ℕ → Type 0) → Type 0
 CallsSoByValue {F} g f vs r P = (last : F) × CallsSo g f vs r last P

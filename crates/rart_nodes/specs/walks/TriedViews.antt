@@ -26,7 +26,7 @@ module _ {F X E : Type 0} (R : F → X → Result VisitControl E → F → Type 
   EndsAfterBy f (x ∷ xs) n r f' = (answer : Result VisitControl E) × ((next : F)
       × (R f x answer next × CountsCall answer next n (λ h m. EndsAfterBy h xs m r f') r f'))
 
-  -- the same of a walk whose allocation can also be refused, and that then calls nothing
+  -- `EndsAfterBy` for a walk whose allocation can also be refused, and that then calls nothing
   abbrev pub EndsVisitBy : F → List X → Result (Unit {0}) (VisitError E) → F → Type 0
   EndsVisitBy f xs (Ok u) f' = EndsBy f xs (Ok tt) f'
   EndsVisitBy f xs (Err (Callback e)) f' = EndsBy f xs (Err e) f'
@@ -68,7 +68,7 @@ module _ {F V E : Type 0} (g : Mut F (LendingKeyView × (Bor V × Unit {0})) (Re
   abbrev pub EndsViewsAfter : F → List (SegmentList × V) → ℕ → Result (Unit {0}) E → F → Type 0
   EndsViewsAfter f xs n r f' = EndsAfterBy (λ p x a q. ViewedAs g p x a q) f xs n r f'
 
-  -- the same of a walk whose allocation can also be refused, and that then calls nothing
+  -- `EndsViewsAfter` for a walk whose allocation can also be refused, and that then calls nothing
   abbrev pub EndsViewVisit : F → List (SegmentList × V) → Result (Unit {0}) (VisitError E) → F → Type 0
   EndsViewVisit f xs r f' = EndsVisitBy (λ p x a q. ViewedAs g p x a q) f xs r f'
 

@@ -34,7 +34,7 @@ module _ {F V : Type 0} (g : Mut F (LendingKeyView × (Bor V × Unit {0})) (Unit
   abbrev pub ViewsEach : F → List (SegmentList × V) → F → Type 0
   ViewsEach f xs f' = FoldsTo (λ p x q. Viewed g p x q) f xs f'
 
-  -- the same of an f taken by value
+  -- `ViewsEach` for an f taken by value
   abbrev pub ViewsEachByValue : F → List (SegmentList × V) → Type 0
   ViewsEachByValue f xs = CallsEach (λ p x q. Viewed g p x q) f xs
 
@@ -44,7 +44,7 @@ abbrev pub CanShowFound : {F V : Type 0} → Mut F (LendingKeyView × (Bor V × 
 CanShowFound g f s None = Unit {0}
 CanShowFound g f s (Some e) = TakesView g f (cut s e.0, e.1)
 
--- the same of an f that is called once
+-- `CanShowFound` for an f that is called once
 abbrev pub CanSeeFound : {F V : Type 0} → Once F (LendingKeyView × (Bor V × Unit {0})) (Unit {0}) → F → List (List ℕ)
     → Option (List ℕ × V) → Type 0
 CanSeeFound g f s None = Unit {0}

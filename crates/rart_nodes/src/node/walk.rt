@@ -30,7 +30,7 @@ pub(crate) mod seek_lower_bound;
 /// A walk over the pairs of a tree, in order. Its caller holds the path.
 #[derive(Drop)]
 pub(crate) struct Walk<'a, P: Partial, V, C> {
-    // for each inner node on the path, what is left of its children, and how much is kept of its key; the root first
+    // for each inner node on the path, the rest of its children, and how much is kept of its key; the root first
     levels: Vec<(Branches<'a, P, V, C>, usize)>,
     // the root's value, until it is given
     first: Option<&'a V>,

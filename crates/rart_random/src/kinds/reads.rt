@@ -150,7 +150,7 @@ fn sum_pairs<K: KeyTrait + Drop>(pairs: &mut Iter<'_, K, K::PartialType, u64>, m
     sum
 }
 
-/// The sum of the first pairs, so many at most.
+/// The sum of the first pairs, `most` at most.
 pub fn iter<K: KeyTrait + Drop>(tree: &Tree<K>, most: u64) -> Option<u64> {
     match tree.iter() {
         Ok(mut pairs) => Some(sum_pairs(&mut pairs, most)),
@@ -254,7 +254,7 @@ fn sum_descending<K: KeyTrait + Drop>(pairs: &mut Descending<'_, K, u64>, most: 
     sum
 }
 
-/// The sum of the last pairs, so many at most, the last first.
+/// The sum of the last pairs, `most` at most, the last first.
 pub fn iter_descending<K: KeyTrait + Drop>(tree: &Tree<K>, most: u64) -> Option<u64> {
     match tree.iter_descending() {
         Ok(mut pairs) => Some(sum_descending(&mut pairs, most)),

@@ -43,7 +43,7 @@ fn value_mask(choice: u64, len: usize) -> u64 {
 }
 
 impl Rule {
-    // The rule of the call on a tree of so many pairs.
+    // The rule of the call on a tree of `len` pairs.
     fn new(call: &Call, len: usize) -> Self {
         Rule {
             at: ((call.choice >> 8) % 4) as usize,

@@ -129,12 +129,12 @@ pub fn end_of(model: &Model, end: &Text, way: u64) -> usize {
     }
 }
 
-// At most so many places of a range.
+// The first places of a range, `most` at most.
 fn some_of(span: (usize, usize), most: u64) -> (usize, usize) {
     (span.0, span.1.min(span.0.saturating_add(most as usize)))
 }
 
-// At most so many places of a range, up to its end.
+// The last places of a range, `most` at most.
 fn last_of(span: (usize, usize), most: u64) -> (usize, usize) {
     (span.0.max(span.1.saturating_sub(most as usize)), span.1)
 }

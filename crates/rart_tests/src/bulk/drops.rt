@@ -56,7 +56,7 @@ fn holds(tree: &Tree<'_>, wanted: &[(&str, u8)]) -> bool {
     tree.len() == wanted.len()
 }
 
-// What doesn't stay of so many values is dropped by the load, and each value once the tree is.
+// Which of `many` values don't stay are dropped by the load, and each value is once the tree is.
 fn is_held(tree: Tree<'_>, pairs: &[(&str, u8)], many: usize, drops: &Cell<usize>) -> bool {
     let held = holds(&tree, pairs);
     let early = drops.get();

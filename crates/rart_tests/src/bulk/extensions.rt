@@ -125,7 +125,7 @@ const ITEMS: Pairs<'static> = &[
     ("y", 10),
 ];
 
-// Whether an extension that read so many of the items was refused at the last of them, which it returns.
+// Whether an extension that read `read` of the items was refused at the last of them, which it returns.
 fn is_refused_at(refused: &Refused<(Key, u64)>, read: usize) -> bool {
     let (key, value) = &refused.value;
     match ITEMS.get(read.wrapping_sub(1)) {
@@ -136,7 +136,7 @@ fn is_refused_at(refused: &Refused<(Key, u64)>, read: usize) -> bool {
     }
 }
 
-// Whether the tree has the first so many of the items, and no others.
+// Whether the tree has the first `many` of the items, and no others.
 fn has_items(tree: &Tree<Key>, many: usize) -> bool {
     for (text, value) in &ITEMS[..many.min(ITEMS.len())] {
         if tree.get_k(&key_of(text)) != Some(value) {
@@ -146,7 +146,7 @@ fn has_items(tree: &Tree<Key>, many: usize) -> bool {
     tree.len() == many
 }
 
-// How many items an extension stored, where it read so many: all, or those before the one that it was refused.
+// How many of the items that it read an extension stored: all, or those before the one that it was refused.
 fn stored(extended: &Result<(), Refused<(Key, u64)>>, was: bool, read: usize) -> Option<usize> {
     match extended {
         Ok(()) => (!was).then_some(ITEMS.len()),

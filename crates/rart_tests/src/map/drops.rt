@@ -356,7 +356,7 @@ fn an_append_drops_the_old_values_of_shared_keys_once(rt: HostRuntime) {
     }
 }
 
-// An append with this request and all after it refused: each of so many values is stored, held or dropped.
+// An append with this request and all after it refused: each of the values is stored, held or dropped.
 fn are_all_kept<'a>(
     alloc: Global,
     at: usize,

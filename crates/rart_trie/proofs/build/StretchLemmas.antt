@@ -1,4 +1,4 @@
--- Stretches of ascending keys: what they share, where they part, and what is left of them after it.
+-- Stretches of ascending keys: what they share, where they part, and the rest of them after it.
 use Rattle.std.proofs.Common.{◌≡◌, ℕ, ◌+◌, ◌<◌, ◌≤◌, ⊎_elim, zero, suc, Bool, true, false, cond, List, [], ◌∷◌, ◌++◌}
 use Rattle.std.proofs.Common.{length, take, drop, get_or, map, nat_eq, refl, arith, sym, ap, ◌∙◌, Greater, Option}
 use Rattle.std.specs.Prelude.{slice_index}

@@ -84,7 +84,7 @@ module _ {V : Type 0} where
       ∙ descend-followed records p k rest b old w (as_children es) e h
       ∙ descend-absent records b rest es at
 
-  -- a child that is put back as it was
+  -- a child that is put back unchanged
   pub replaced-same : (b : ℕ) (t : Trie V) (es : List (ℕ × Trie V)) → Some t ≡ child_at b es → replaced_at b t es ≡ es
   replaced-same b t [] s = refl
   replaced-same b t (e ∷ es) s = ⊎_elim
@@ -123,7 +123,7 @@ pub fewer-within : (m : Option ℕ) (a b : ℕ) → b ≤ a → IsWithin m a →
 fewer-within None a b h w = tt
 fewer-within (Some m) a b h w = omega arith
 
--- what is left of a key is within the maximum
+-- the rest of a key is within the maximum
 pub rest-within : (m : Option ℕ) (p k rest : List ℕ) → Some rest ≡ strip_prefix p k → IsWithin m (length k)
     → IsWithin m (length rest)
 rest-within m p k rest e h = fewer-within m (length k) (length rest) (rest-length p k rest e) h

@@ -158,7 +158,7 @@ module _ {V : Type 0} {e : End} {p : List ℕ} {v : Option V} {w b : ℕ} {t : T
   }
 
 module _ {V : Type 0} where
-  -- The pairs: what is left of a list without its first or last pair.
+  -- The pairs: a list without its first or last pair.
   last-above : (k : List ℕ) (o x : List ℕ × V) (es : List (List ℕ × V)) → AreAbove k (o ∷ es)
       → last_or (Some o) es ≡ Some x → IsLess k x.0
   last-above k o x [] a h = let s : o ≡ x = cc in rw (← s) a.0
@@ -265,7 +265,7 @@ module _ {V : Type 0} where
       let below = ends-below e b (node p v w (as_children es)) u c (sym h) in
       let found : Some u ≡ None = sym below.found ∙ child_of-entries b es ∙ sym at in cc
 
-  -- the same of equal tries
+  -- `Pops` for equal tries
   pub pops-as : (e : End) (t t' u u' : Trie V) (q r : List ℕ) (o o' : Option V) → t ≡ t' → o' ≡ o → u' ≡ u
       → Pops e t q r o u → Pops e t' q r o' u'
   pops-as e t t' u u' q r o o' a b c m = rw (← a, b, c) m

@@ -78,7 +78,7 @@ module _ {V : Type 0} where
         (λ h. rw (is_greater b c h, parts, without-first b c r (pairs_of t) (pairs_of-first c t w.1) (λ e. omega arith))
         (ap (λ z. pairs_of t ++ z) (children_pairs-without b r (suc c) cs w.3)))) (order b c)
 
-  -- what is left is canonical
+  -- the remaining node is canonical
   first-without : (c : ℕ) (q : List ℕ) (t : Trie V) → StartsWith c (prefix_of t)
       → IsFirstIn c (trie_without_prefix q t)
   first-without c q (node p v n cs) f = elim (strip_prefix p q)

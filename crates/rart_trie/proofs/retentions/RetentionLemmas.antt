@@ -47,7 +47,7 @@ key-after p removed k o = refl
 key-after p refused k o = refl
 
 module _ {V : Type 0} where
-  -- what is left, one list after another
+  -- the remaining pairs, one list after another
   pub remaining-append : (es ds : List (List ℕ × V)) (xs ys : List (V × Fate)) → length xs ≡ length es
       → remaining_pairs (es ++ ds) (xs ++ ys) ≡ remaining_pairs es xs ++ remaining_pairs ds ys
   remaining-append [] ds [] ys h = refl
@@ -65,7 +65,7 @@ module _ {V : Type 0} where
   remaining-none [] = refl
   remaining-none (e ∷ es) = refl
 
-  -- those after the first are as they were
+  -- those after the first are unchanged
   pub remaining-front : (es ds : List (List ℕ × V)) (xs : List (V × Fate)) → length xs ≤ length es
       → remaining_pairs (es ++ ds) xs ≡ remaining_pairs es xs ++ ds
   remaining-front [] ds [] h = remaining-none ds

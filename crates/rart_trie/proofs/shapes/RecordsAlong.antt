@@ -1,4 +1,4 @@
--- What the records along a string say, at a node by what is left of the string after its prefix.
+-- What the records along a string say, at a node by the rest of the string after its prefix.
 use Rattle.std.proofs.Common.{◌≡◌, ℕ, ◌==◌, ⊎_elim, false, true, List, [], ◌∷◌, Option, Some, None, is_some}
 use Rattle.std.proofs.Common.{if◌then◌else◌, refl, sym, ap, ◌∙◌}
 use Rattle.std.specs.List.{list_any}

@@ -119,7 +119,7 @@ module _ {V A : Type 0} where
   descend-on d (node p v n cs) k r b c e h = descend-followed d p k r b v n cs e h
       ∙ ap (d.on (node p v n cs)) (descend-child_of d b 0 r cs (IsCanonical-test (node p v n cs) c).2)
 
-  -- the same over children that are given as entries
+  -- `descend-on`, over children that are given as entries
   pub descend-at : (d : Descent V A) (b low : ℕ) (k : List ℕ) (o : Option (Trie V)) (es : List (ℕ × Trie V))
       → AreCanonical low (as_children es) → o ≡ child_at b es → descend_child d b k (as_children es)
       ≡ descend_tree d k o

@@ -1,4 +1,4 @@
--- What begins a string after a prefix, and what is left of it.
+-- What begins a string after a prefix, and the rest of it.
 use Rattle.std.proofs.Common.{◌≡◌, ℕ, ◌-◌, ⊎_elim, List, [], ◌∷◌, ◌++◌, length, take, drop, refl, arith, sym, ap, Some}
 use Rattle.std.proofs.Common.{None}
 use Rattle.std.proofs.lemmas.Grind.{common_steps}
@@ -18,7 +18,7 @@ begins-apart (x ∷ q) [] k s = refl
 begins-apart (x ∷ q) (y ∷ p) k s = ⊎_elim (λ e. let h = rw (eq-yes x y e) at s in
     rw (eq-yes y x (sym e)) (begins-apart q p k h)) (λ n. rw (eq-no y x (λ e. n (sym e))) refl) (equal_or_not x y)
 
--- a string is the prefix and what is left
+-- a string is the prefix and the rest
 pub strip_prefix-is : (p k r : List ℕ) → strip_prefix p k ≡ Some r → p ++ r ≡ k
 strip_prefix-is [] k r s = let e : k ≡ r = cc in sym e
 strip_prefix-is (x ∷ p) [] r s = absurd (cc)

@@ -22,7 +22,7 @@ parts-within (x ∷ p) [] n e s = omega (arith, e)
 parts-within (x ∷ p) (y ∷ k) n e s = rw e
     (parts-step (x == y) p k (common_prefix_len nat_eq p k) (parts-within p k (common_prefix_len nat_eq p k) refl) s)
 
--- what is left is no longer than the key
+-- the rest is no longer than the key
 rest-step : (z : Bool) (p k r : List ℕ) → (Some r ≡ strip_prefix p k → length r ≤ length k)
     → Some r ≡ cond z (strip_prefix p k) None → length r ≤ suc (length k)
 rest-step true p k r f e = let l = f e in omega arith

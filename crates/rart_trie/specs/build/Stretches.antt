@@ -6,7 +6,7 @@ use Rattle.rart_keys.specs.KeyBytes.{IsWithin}
 use Rattle.rart_keys.specs.SortedMap.{IsAscending}
 use Rattle.rart_trie.specs.shapes.KeyLists.{keys_in, unit_pairs}
 
--- what is left of the keys after a depth
+-- the rest of the keys after a depth
 abbrev pub rests : ℕ → List (Bor (List ℕ)) → List (List ℕ)
 rests d ks = map (λ k. drop d k) (keys_in ks)
 

@@ -13,7 +13,7 @@ abbrev pub KeepsSlot : {F V : Type 0} → Once F (MutBor (Slot V) × Unit {0}) (
 KeepsSlot {F} {V} g f o = (r : SlotUpdate V) (w : Option V) → FnOnceReturnsAtMut g f (slot_of o) r (slot_of w)
     → is_some w ≡ is_some o
 
--- the same of one that returns the requested update and a second result
+-- `KeepsSlot` for a callback that returns the requested update and a second result
 abbrev pub KeepsSlotReturning : {F X V : Type 0}
     → Once F (MutBor (Slot V) × Unit {0}) ((SlotUpdate V × X) × (MutBor (Slot V) × Unit {0})) → F → Option V → Type 0
 KeepsSlotReturning {F} {X} {V} g f o = (r : SlotUpdate V) (x : X) (w : Option V)
@@ -24,7 +24,7 @@ abbrev pub AnswersSo : {F A V : Type 0} → Once F (MutBor (Slot V) × Unit {0})
     → Option V → (A → Option V → Type 0) → Type 0
 AnswersSo {F} {A} {V} g f o E = (a : A) × (w : Option V) × FnOnceReturnsAtMut g f (slot_of o) a (slot_of w) × E a w
 
--- the same of one that returned x too
+-- `AnswersSo` for a callback that returned x too
 abbrev pub AnswersReturning : {F X V : Type 0} → Once F (MutBor (Slot V) × Unit {0}) ((SlotUpdate V × X)
     × (MutBor (Slot V) × Unit {0})) → F → Option V → X → (SlotUpdate V → Option V → Type 0) → Type 0
 AnswersReturning {F} {X} {V} g f o x E = (r : SlotUpdate V) × (w : Option V)

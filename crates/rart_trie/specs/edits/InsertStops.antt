@@ -1,4 +1,4 @@
--- Why an insertion stopped, with all as it was.
+-- Why an insertion stopped, with everything unchanged.
 use Rattle.std.specs.Prelude.{◌≡◌, ◌≢◌, ℕ, Bool, true, List, None}
 use Rattle.rart_keys.specs.SortedMap.{lookup}
 use Rattle.rart_trie.specs.edits.InsertAllocations.{MayAllocateFor, trie_put_allocates}
@@ -16,7 +16,7 @@ module _ {V : Type 0} where
   FailsPut only_new key trie stop.Memory = (trie_put_allocates key trie ≡ true)
       × (trie_lookup key (with_records trie) ≡ None)
 
-  -- the same, with the returned value
+  -- `FailsPut`, with the returned value
   abbrev pub FailsInsert : List ℕ → V → Trie V → NotInserted V → Type 0
   FailsInsert key value trie (not_inserted.Stored back) = (back ≡ value) × (trie_lookup key trie ≢ None)
   FailsInsert key value trie (not_inserted.Refused r) = (r.value ≡ value) × (r.error ≡ Memory)

@@ -24,7 +24,7 @@ abbrev pub lends_below : (P V : RattleType) → partials.Ghosts P.Denot → MutB
 lends_below P V G node k lent = LendsSo (the_row P V G) V node lent
     (λ n w. EndsLent lent (trie_put k w node.now) node.now n) (λ n. n ≡ node.now)
 
--- the same of a tree, a root or none, with what its pairs and nodes then are
+-- `lends_below` for a tree, a root or none, with what its pairs and nodes then are
 abbrev pub lends_in : (P V : RattleType) → partials.Ghosts P.Denot → MutBor (Option (Trie V.Denot)) → List ℕ
     → Option (MutBor V.Denot) → Fml
 lends_in P V G root k lent = LendsSo (option_row (the_row P V G)) V root lent (λ t w. LeavesAt k w lent root.now t)

@@ -30,7 +30,7 @@ trie_below q t = descend finds_below q t
 abbrev pub tree_below : {V : Type 0} → List ℕ → Option (Trie V) → Option (Trie V)
 tree_below q o = descend_tree finds_below q o
 
--- what is left of a node, by what is left of a prefix after its own, and whether the prefix begins its own
+-- the rest of a node, by the rest of a prefix after its own, and whether the prefix begins its own
 abbrev pub remaining_after : {V : Type 0} → Option (List ℕ) → Bool → Trie V → (ℕ → List ℕ → Children V)
     → Option (Trie V)
 remaining_after None true t f = None
@@ -49,7 +49,7 @@ abbrev mutual
   children_without_prefix b q (child c t cs) = match_ordering (nat_cmp b c) (child c t cs)
       (child_if c (trie_without_prefix q t) cs) (child c t (children_without_prefix b q cs))
 
--- the same of a tree
+-- `trie_without_prefix` for a tree
 abbrev pub tree_without_prefix : {V : Type 0} → List ℕ → Option (Trie V) → Option (Trie V)
 tree_without_prefix q None = None
 tree_without_prefix q (Some t) = trie_without_prefix q t
@@ -64,7 +64,7 @@ take_prefix_allocation = record {
   on = λ t allocates. Some (unwrap_or allocates (moves_down (Some (record_of t))));
 }
 
--- the same at a node whose parent has the record l
+-- `take_prefix_allocation`, at a node whose parent has the record l
 abbrev pub trie_take_prefix_allocates : {V : Type 0} → Option NodeRecord → List ℕ → Trie V → Bool
 trie_take_prefix_allocates l q t = unwrap_or (descend take_prefix_allocation q t) (moves_down l)
 

@@ -42,6 +42,6 @@ remove_allocation = record {
   on = λ t allocates. Some (unwrap_or allocates (moves_down (Some (record_of t))));
 }
 
--- the same at a node whose parent has the record l
+-- `remove_allocation`, at a node whose parent has the record l
 abbrev pub trie_remove_allocates : {V : Type 0} → Option NodeRecord → List ℕ → Trie V → Bool
 trie_remove_allocates l k t = unwrap_or (descend remove_allocation k t) (moves_down l)

@@ -40,7 +40,7 @@ module _ {F V : Type 0} (call : Mut F (Bor (List ℕ) × (MutBor V × Unit {0}))
       × RetainsAll call q f (pairs_of t) (pairs_of u) 1 f'
   RetainsBelow q Refused f t u f' = RefusesBelow q f t u f'
 
-  -- the same of a tree
+  -- `RetainsBelow` for a tree
   abbrev pub RetainsTree : Retention → F → Option (Trie V) → Option (Trie V) → F → Type 0
   RetainsTree walk f None None f' = (walk ≡ Done) × (f ≡ f')
   RetainsTree walk f None (Some u) f' = ⊥

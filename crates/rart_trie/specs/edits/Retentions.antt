@@ -42,7 +42,7 @@ pub record CalledFor {F V : Type 0} (call : Mut F (Bor (List ℕ) × (MutBor V �
   pub called : Called call f (key, (shown, tt)) (r, (left, tt)) f'
   pub leaves : left.now ≡ w
 
--- what is left of a list, of whose first pairs each has a fate, and a value that its call left
+-- the remaining pairs of a list, of whose first pairs each has a fate, and a value that its call left
 abbrev pub remaining_pairs : {V : Type 0} → List (List ℕ × V) → List (V × Fate) → List (List ℕ × V)
 remaining_pairs [] xs = []
 remaining_pairs (e ∷ es) [] = e ∷ es
@@ -120,6 +120,6 @@ module _ {F V : Type 0} (call : Mut F (Bor (List ℕ) × (MutBor V × Unit {0}))
   Retains f es (Ok u) ds f' = RetainsAll [] f es ds 0 f'
   Retains f es (Err e) ds f' = (k : List ℕ) × (RetainsFirst [] f es ds k f' × (remove_allocates (keys_of ds) k ≡ true))
 
-  -- the same of an f taken by value
+  -- `Retains` for an f taken by value
   abbrev pub RetainsByValue : {E : Type 0} → F → List (List ℕ × V) → Result (Unit {0}) E → List (List ℕ × V) → Type 0
   RetainsByValue f es r ds = (last : F) × Retains f es r ds last

@@ -42,7 +42,7 @@ EndsMap full k r w m (Err (Not_inserted e)) n = (n ≡ m) × (r ≡ Insert e.val
 EndsMap full k r w m (Err Not_removed) n = (n ≡ map_left k w m) × (r ≡ Remove) × (w ≢ None)
     × (remove_allocates (keys_of m) k ≡ true)
 
--- the same of an update with the callback f, which returns something more
+-- `EndsMap` for an update with the callback f, which returns something more
 abbrev pub UpdatesMap : {F X V : Type 0}
     → Once F (MutBor (Slot V) × Unit {0}) ((SlotUpdate V × X) × (MutBor (Slot V) × Unit {0})) → F → Bool → List ℕ
     → List (List ℕ × V) → Result (Outcome V) (UpdateError V) × X → List (List ℕ × V) → Type 0

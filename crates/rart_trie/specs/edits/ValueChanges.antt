@@ -32,6 +32,6 @@ module _ {F V : Type 0} (call : Mut F (MutBor V × Unit {0}) (Unit {0} × (MutBo
   ChangesBelow p f (e ∷ es) (d ∷ ds) f' = (e.0 ≡ d.0)
       × ((g : F) × (ChangesValue (begins p e.0) f e.1 d.1 g × ChangesBelow p g es ds f'))
 
-  -- the same of an f taken by value
+  -- `ChangesBelow` for an f taken by value
   abbrev pub ChangesBelowByValue : List ℕ → F → List (List ℕ × V) → List (List ℕ × V) → Type 0
   ChangesBelowByValue p f es ds = (last : F) × ChangesBelow p f es ds last

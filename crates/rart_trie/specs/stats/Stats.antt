@@ -26,7 +26,7 @@ children_at r = length r.edges
 abbrev pub width_at : NodeRecord → ℕ
 width_at r = r.capacity
 
--- the same of the nodes of one width
+-- 1 for a node of one width, and its children
 abbrev pub nodes_of_width : ℕ → NodeRecord → ℕ
 nodes_of_width w r = one_if (r.capacity == w)
 

@@ -96,7 +96,7 @@ pub record Descent (V A : Type 0) : Type 0 where
   pub absent : A
   pub on : Trie V → A → A
 
--- at a node, by what is left of the key after its prefix
+-- at a node, by the rest of the key after its prefix
 abbrev pub by_rest : {A : Type 0} → A → A → (A → A) → Option (List ℕ) → (ℕ → List ℕ → A) → A
 by_rest left ended on None f = left
 by_rest left ended on (Some []) f = ended
@@ -111,7 +111,7 @@ abbrev mutual
   descend_child d b k no_children = d.absent
   descend_child d b k (child c t cs) = match_ordering (nat_cmp b c) d.absent (descend d k t) (descend_child d b k cs)
 
--- the same of a tree
+-- `descend` for a tree
 abbrev pub descend_tree : {V A : Type 0} → Descent V A → List ℕ → Option (Trie V) → A
 descend_tree d k None = d.absent
 descend_tree d k (Some t) = descend d k t
@@ -137,13 +137,13 @@ fitting_node p v cs = node p v (capacity_of (length (edges_of cs))) cs
 abbrev pub leaf : {V : Type 0} → List ℕ → V → Trie V
 leaf k v = fitting_node k (Some v) no_children
 
--- the prefix that two lists share, and what is left of each
+-- the prefix that two lists share, and the rest of each
 pub record Overlap : Type 0 where
   pub shared : List ℕ
   pub left : List ℕ
   pub right : List ℕ
 
--- the same with one more shared byte in front
+-- an overlap with one more shared byte in front
 abbrev pub grown_overlap : ℕ → Overlap → Overlap
 grown_overlap x r = record { shared = x ∷ r.shared; left = r.left; right = r.right }
 
@@ -168,7 +168,7 @@ put_split q (c ∷ l) [] v old n cs f = fitting_node q (Some v) (child c (node (
 put_split q (c ∷ l) (b ∷ r) v old n cs f
     = fitting_node q None (two_children c (node (c ∷ l) old n cs) b (leaf (b ∷ r) v))
 
--- the same of an overlap
+-- `put_split` for an overlap
 abbrev pub put_overlap : {V : Type 0} → Overlap → V → Option V → ℕ → Children V → (ℕ → List ℕ → Children V) → Trie V
 put_overlap s v old n cs f = put_split s.shared s.left s.right v old n cs f
 
@@ -190,7 +190,7 @@ collapsed_node p None (child b (node q v n cs) no_children) = Some (node (p ++ q
 collapsed_node p None (child b t (child c u cs)) = Some (fitting_node p None (child b t (child c u cs)))
 collapsed_node p (Some v) cs = Some (fitting_node p (Some v) cs)
 
--- what is left without a key, by what is left of the key after the prefix
+-- what is left without a key, by the rest of the key after the prefix
 abbrev pub removed_after : {V : Type 0} → Option (List ℕ) → List ℕ → Option V → Children V → (ℕ → List ℕ → Children V)
     → Option (Trie V)
 removed_after None p v cs f = collapsed_node p v cs

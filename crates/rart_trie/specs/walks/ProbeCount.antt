@@ -26,7 +26,7 @@ counts = record { left = λ k t. 1; ended = λ t. 1; absent = 0; on = λ t n. 1 
 abbrev pub entered_nodes : {V : Type 0} → List ℕ → Trie V → ℕ
 entered_nodes k t = descend counts k t
 
--- the same of a tree
+-- `entered_nodes` for a tree
 abbrev pub tree_entered : {V : Type 0} → List ℕ → Option (Trie V) → ℕ
 tree_entered k o = descend_tree counts k o
 

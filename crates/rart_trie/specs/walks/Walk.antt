@@ -22,7 +22,7 @@ KeepsEach g = (b : ℕ) (p : List ℕ) → 0 < length (g (b ∷ p))
 abbrev pub IsShort : Grown → Type 0
 IsShort g = (p : List ℕ) → length (g p) ≤ length p
 
--- what is left of a node's children, and how much is kept of the node's key
+-- the rest of a node's children, and how much is kept of the node's key
 abbrev pub Level : Type 0 → Type 0
 Level V = Children V × ℕ
 

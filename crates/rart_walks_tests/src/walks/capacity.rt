@@ -38,7 +38,7 @@ fn are_added_up(alloc: Global) -> bool {
     were_more(alloc)
 }
 
-// Whether calls request exactly so many bytes. `are_within` makes the calls and returns whether
+// Whether calls request exactly `bytes` bytes. `are_within` makes the calls and returns whether
 // they request at most the limit, which they always do where nothing adds up bytes.
 fn are_requested<F: Fn(usize) -> bool + Drop>(alloc: Global, bytes: usize, are_within: F) -> bool
     requires { (limit : _) → F.pre are_within limit }
@@ -78,7 +78,7 @@ fn descent_requests(alloc: Global, tree: &Tree, bytes: usize) -> bool {
     are_requested(alloc, bytes, |limit| descent_is_within(alloc, tree, limit))
 }
 
-// A tree with one key of so many bytes.
+// A tree with one key of `len` bytes.
 fn of_one(alloc: Global, len: usize) -> Option<Tree> {
     let mut tree = Tree::new(alloc);
     match tree.insert_k(&Key::new_from_slice(&BYTES[..len.min(BYTES.len())]), 0) {

@@ -1,4 +1,4 @@
-//! An iterator over all values of a tree from both ends, which counts what is left.
+//! An iterator over all values of a tree from both ends, which counts the remaining values.
 ghost use Rattle.std.specs.Prelude.{◌≡◌, length, Some, IfErr, IfOk, IfSome};
 ghost use Rattle.std.specs.Iterator.{UpTo, YieldsFirstBy, YieldsLastBy, item_count};
 ghost use Rattle.std.specs.Iterator.SizeHint.{IsWithinCount};
@@ -92,7 +92,7 @@ impl<'a, K: KeyTrait + Drop, V> ExactSizeIterator for ValuesBothEnds<'a, K, V> {
 impl<'a, K: KeyTrait + Drop, V> FusedIterator for ValuesBothEnds<'a, K, V> {}
 
 impl<K: KeyTrait, V> AdaptiveRadixTree<K, V> {
-    /// Returns an iterator over the values from both ends, which counts what is left.
+    /// Returns an iterator over the values from both ends, which counts the remaining values.
     ///
     /// Allocates here, for two paths of the longest key, and nothing for an empty tree; the iterator itself allocates
     /// nothing.

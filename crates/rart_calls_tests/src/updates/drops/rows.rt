@@ -46,7 +46,7 @@ pub struct Row {
     pub dropped: usize,
 }
 
-/// An update of a tree with so many keys, and what it is where one of its requests for memory is refused.
+/// An update of a tree with `count` keys, and what it is where one of its requests for memory is refused.
 pub struct Sweep {
     pub count: u8,
     pub row: Row,

@@ -25,7 +25,7 @@ pub(crate) mod seek_upper_bound;
 /// A walk over the pairs of a tree, the last first. Its caller holds the path.
 #[derive(Drop)]
 pub(crate) struct BackWalk<'a, P: Partial, V, C> {
-    // for each node on the path, the root first: what is left of its children, how much is kept of its key, its value
+    // for each node on the path, the root first: the rest of its children, how much is kept of its key, its value
     levels: Vec<((BackBranches<'a, P, V, C>, usize), Option<&'a V>)>,
     longest: usize,
 }

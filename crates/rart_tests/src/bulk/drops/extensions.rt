@@ -102,7 +102,7 @@ fn a_value_that_an_extension_replaces_is_dropped_once(rt: HostRuntime) -> Result
 // Different keys in no order, which need several nodes.
 static KEYS: [&str; 10] = ["m", "c", "ca", "x", "cat", "cab", "a", "z", "", "y"];
 
-// Whether an extension that stored so many values stored all, or was refused the next one, which the error holds, and
+// Whether an extension that stored `stored` values stored all, or was refused the next one, which the error holds, and
 // dropped those after it.
 fn is_whole(
     extended: Result<(), Refused<(Key, Counted<'_>)>>,

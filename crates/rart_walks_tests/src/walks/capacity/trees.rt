@@ -34,7 +34,7 @@ pub static FORMS: [Form; 7] = [
 
 const BYTES: [u8; LONGEST] = *b"abc";
 
-// The first so many bytes of the longest key.
+// The first `len` bytes of the longest key.
 fn key(len: usize) -> Key {
     Key::new_from_slice(&BYTES[..len.min(LONGEST)])
 }
