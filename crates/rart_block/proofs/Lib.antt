@@ -4,4 +4,8 @@ pub mod Opened
 pub mod Parts
 pub mod RoomSteps
 pub mod Shares
+pub mod SlotSteps
+pub mod SparseOpened
+pub mod SparseShares
+pub mod View
 pub mod Walk

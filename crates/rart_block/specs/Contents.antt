@@ -1,5 +1,5 @@
 -- What a block holds: a header in two parts, and its items in order.
-use Rattle.std.specs.Prelude.{List, refl}
+use Rattle.std.specs.Prelude.{List, [], ◌∷◌, Option, None, Some, refl}
 use Rattle.std.specs.Coded.{Coded, code_by, coded×, coded_list}
 
 pub record Contents (H K T : Type 0) : Type 0 where
@@ -20,3 +20,9 @@ with_keys c k = record { head = c.head; keys = k; items = c.items }
 
 abbrev pub with_items : {H K T : Type 0} → Contents H K T → List T → Contents H K T
 with_items c xs = record { head = c.head; keys = c.keys; items = xs }
+
+-- the items in slots, in order
+abbrev pub items_in : {X : Type 0} → List (Option X) → List X
+items_in [] = []
+items_in (None ∷ os) = items_in os
+items_in (Some x ∷ os) = x ∷ items_in os

@@ -14,15 +14,15 @@ use std_alloc::vec::{Lodged, lodge};
 
 /// How a block is laid out.
 pub struct Layout<H, T, const W: usize> {
-    head: H,
-    places: [T; W],
+    pub(crate) head: H,
+    pub(crate) places: [T; W],
 }
 
 /// Memory for a block, not filled yet.
 ///
 /// Functions take and return this type, not `Layout`: nothing bounds the size of a `Layout` of any `H` and `T`.
 pub struct Room<H, T, const W: usize> {
-    vacant: Vacant<Layout<H, T, W>, Global>,
+    pub(crate) vacant: Vacant<Layout<H, T, W>, Global>,
 }
 
 impl<H, T, const W: usize> Room<H, T, W> {

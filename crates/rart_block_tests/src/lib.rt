@@ -11,3 +11,5 @@ mod edits;
 mod memory;
 #[cfg(test)]
 mod moves;
+#[cfg(test)]
+mod sparse;

@@ -1,8 +1,7 @@
 -- The places of a direct mapping through its calls.
-use Rattle.std.proofs.Common.{◌≡◌, ℕ, zero, suc, ◌<◌, ◌≤◌, ◌+◌, ◌-◌, true, false, cond, eqb, List, [], ◌∷◌, Option}
-use Rattle.std.proofs.Common.{Some, None, length, get_or, set, replicate, is_some, sym, ap, ◌∙◌, refl, arith}
+use Rattle.std.proofs.Common.{◌≡◌, ℕ, zero, suc, ◌<◌, ◌≤◌, ◌+◌, ◌-◌, cond, eqb, List, [], ◌∷◌, Option}
+use Rattle.std.proofs.Common.{Some, None, length, get_or, set, replicate, sym, ap, ◌∙◌, refl, arith}
 use Rattle.std.proofs.Common.{⊎_elim}
-use Rattle.std.proofs.lemmas.Bool.{false≢true}
 use Rattle.std.proofs.lemmas.Bool.Decides.{eqb_tells}
 use Rattle.std.proofs.lemmas.List.{length-set, length-replicate, get_or-set_same, get_or-set_other}
 use Rattle.rart_parts.specs.Entries.{child_at, with_entry, without_byte, replaced_at, StartsAbove}
@@ -115,17 +114,19 @@ direct_start X = record {
       = sym (ap length (numbered-free X 0 256));
 }
 
--- ---- places without a child
+-- ---- slots without a child
 pub numbered_valueless : {X : Type 0} (n : ℕ) (os : List (Option X)) → numbered_values n os ≡ [] → values_in os ≡ []
 numbered_valueless n [] h = refl
 numbered_valueless n (None ∷ os) h = numbered_valueless (suc n) os h
 numbered_valueless n (Some x ∷ os) h = absurd (cc)
 
--- ---- reads
-pub some_of : {X : Type 0} (o : Option X) → true ≡ is_some o → (x : X) × (o ≡ Some x)
-some_of None e = absurd (false≢true (sym e))
-some_of (Some x) e = (x, refl)
+pub numbered_vacant : {X : Type 0} (n : ℕ) (os : List (Option X)) → numbered_values n os ≡ []
+    → os ≡ replicate (length os) None
+numbered_vacant n [] h = refl
+numbered_vacant n (None ∷ os) h = ap (λ l. None ∷ l) (numbered_vacant (suc n) os h)
+numbered_vacant n (Some x ∷ os) h = absurd (cc)
 
-pub none_of : {X : Type 0} (o : Option X) → false ≡ is_some o → o ≡ None
-none_of None e = refl
-none_of (Some x) e = absurd (false≢true e)
+pub vacant_same : {X : Type 0} (os : List (Option X)) (k : ℕ) → get_or os k None ≡ None → set os k None ≡ os
+vacant_same [] k e = refl
+vacant_same (o ∷ os) zero e = ap (λ c. c ∷ os) (sym e)
+vacant_same (o ∷ os) (suc k) e = ap (λ l. o ∷ l) (vacant_same os k e)

@@ -1,8 +1,9 @@
 -- The places of a direct map through its calls and walks.
 use Rattle.std.proofs.Common.{◌≡◌, ℕ, zero, suc, ◌<◌, ◌≤◌, ◌+◌, ◌||◌, ◌&&◌, not, Bool, true, false, cond, eqb, List, []}
-use Rattle.std.proofs.Common.{◌∷◌, ◌++◌, Option, Some, None, length, get_or, set, replicate, sym, ap, ◌∙◌, refl, arith}
+use Rattle.std.proofs.Common.{◌∷◌, Option, Some, None, length, get_or, set, replicate, sym, ap, ◌∙◌, refl, arith}
 use Rattle.std.proofs.Common.{⊎_elim, subst}
-use Rattle.std.proofs.lemmas.Bool.{lt-ltb, le-ltb, cases_lt}
+use Rattle.std.proofs.lemmas.Bool.{lt-ltb, le-ltb, cases_lt, false≢true}
+use Rattle.std.specs.Prelude.{IsSome}
 use Rattle.std.proofs.lemmas.Bool.Decides.{eqb_tells}
 use Rattle.rart_parts.specs.Bits.{members_from, positions_above, words_have}
 use Rattle.rart_parts.specs.Entries.{entries_above}
@@ -22,6 +23,18 @@ used_at [] k x e = absurd (none_some e)
 used_at (None ∷ os) zero x e = absurd (none_some e)
 used_at (Some y ∷ os) zero x e = refl
 used_at (o ∷ os) (suc k) x e = used_at os k x e
+
+pub filled_some : {X : Type 0} (os : List (Option X)) (k : ℕ) → is_used os k ≡ true → IsSome (get_or os k None)
+filled_some [] k e = absurd (false≢true e)
+filled_some (None ∷ os) zero e = absurd (false≢true e)
+filled_some (Some x ∷ os) zero e = refl
+filled_some (o ∷ os) (suc k) e = filled_some os k e
+
+pub vacant_none : {X : Type 0} (os : List (Option X)) (k : ℕ) → is_used os k ≡ false → get_or os k None ≡ None
+vacant_none [] k e = refl
+vacant_none (None ∷ os) zero e = refl
+vacant_none (Some x ∷ os) zero e = absurd (false≢true (sym e))
+vacant_none (o ∷ os) (suc k) e = vacant_none os k e
 
 -- ---- the set of the bytes that have a child
 module _ {X : Type 0} (ws : List ℕ) (os : List (Option X)) (a : Agrees 256 (has_byte ws) os) (k : ℕ)
@@ -129,14 +142,3 @@ module _ {X : Type 0} (k : ℕ) (os : List (Option X)) where
       (sym (ap (λ c. cond c (p ∷ positions_above k ps) (positions_above k ps)) (le-ltb k p l)))
       (above_filled ps f.2))
       (cases_lt k p)
-
--- ---- places that are pushed
-free_more : (X : Type 0) (n : ℕ)
-    → ◌≡◌ {A = List (Option X)} (replicate n None ++ None ∷ []) (replicate (suc n) None)
-free_more X zero = refl
-free_more X (suc n) = ap (λ l. None ∷ l) (free_more X n)
-
-pub one_more_free : (X : Type 0) (n : ℕ)
-    → ◌≡◌ {A = List (Option X)} (replicate n None ++ None ∷ []) (replicate (n + 1) None)
-one_more_free X n = free_more X n
-    ∙ (let next : suc n ≡ n + 1 = omega arith in ap (λ m. replicate {A = Option X} m None) next)

@@ -1,25 +1,22 @@
 //! A map from bytes to children with a slot for each byte, which a contract reads as its ascending entries and an extra
 //! value.
 
-ghost use Rattle.std.specs.Prelude.{◌≡◌, ℕ, [], ◌∷◌, IfSome, IsSome, Some, ◌<◌, ◌≤◌, IfErr, IfOk, None, OnOk};
+ghost use Rattle.std.specs.Prelude.{◌≡◌, ℕ, [], ◌∷◌, IfSome, IsSome, ◌<◌, ◌≤◌, IfErr, IfOk, None, OnOk};
 ghost use Rattle.std.specs.Prelude.{OnErr};
-ghost use Rattle.std.specs.Prelude.{MatchOption, option_map, replicate};
+ghost use Rattle.std.specs.Prelude.{MatchOption, option_map};
 ghost use Rattle.rart_parts.specs.Entries.{BytesAscend, IsLastUnder, sorted_entries, child_at, entries_above};
 ghost use Rattle.rart_parts.specs.Errors.{IsMemory};
 ghost use Rattle.rart_maps.specs.Bounds.{bound_of};
-ghost use Rattle.rart_block.specs.Contents.{with_items};
-ghost use Rattle.rart_parts.specs.Places.{values_in};
 
 mod iter;
 
 use crate::mapping::{IndexedMapping, NodeMapping, bound};
 pub use iter::{DirectMappingIntoIter, DirectMappingIter};
-use rart_block::Block;
+use rart_block::SparseBlock;
 use rart_parts::TreeError;
 use rart_parts::utils::bitset::{Bitset, Bitset64, BitsetTrait};
 use std::alloc::Global;
 use std::marker::Model;
-use std::mem;
 
 /// The bytes that have a child, and their number.
 #[derive(Drop)]
@@ -29,10 +26,19 @@ struct Used {
 }
 
 /// Maps each of the 256 bytes to a child or to none, and stores an extra value of type `E`. All is in one allocation.
-#[derive(Drop)]
 pub struct DirectMapping<N, E = ()> {
-    // All 256 places are there.
-    block: Block<E, Used, Option<N>, 256>,
+    // The set of bytes says which slots hold a child.
+    block: SparseBlock<E, Used, N, 256>,
+}
+
+/// Drops the children, the least byte first, then the extra value, and frees the allocation.
+impl<N: Drop, E: Drop> Drop for DirectMapping<N, E> {
+    fn drop(mut self) {
+        while let Some((_, child)) = self.take_first() {
+            drop(child);
+        }
+        drop(self.destroy_empty());
+    }
 }
 
 impl<N, E> Model for DirectMapping<N, E> {
@@ -105,12 +111,8 @@ impl<N, E> DirectMapping<N, E> {
             bytes: Bitset::new(),
             count: 0,
         };
-        match Block::new(alloc, extra, used) {
-            Ok(block) => {
-                let mut block = block;
-                push_places(&mut block);
-                Ok(DirectMapping { block })
-            }
+        match SparseBlock::new(alloc, extra, used) {
+            Ok(block) => Ok(DirectMapping { block }),
             Err((extra, _)) => Err(extra),
         }
     }
@@ -131,7 +133,7 @@ impl<N, E> DirectMapping<N, E> {
     {
         DirectMappingIter {
             bytes: self.block.keys().bytes.iter(),
-            places: self.block.as_slice(),
+            slots: self.block.slots(),
         }
     }
 
@@ -145,7 +147,7 @@ impl<N, E> DirectMapping<N, E> {
         bytes.pass(byte as usize);
         DirectMappingIter {
             bytes,
-            places: self.block.as_slice(),
+            slots: self.block.slots(),
         }
     }
 
@@ -222,18 +224,22 @@ impl<N, E> NodeMapping<N, 256> for DirectMapping<N, E> {
         let used = self.block.keys_mut();
         used.bytes.set(key as usize);
         used.count += 1;
-        fill_place(self.block.item_mut(key as usize), node);
+        self.block.put(key as usize, node);
     }
 
     #[inline(always)]
     fn seek_child(&self, key: u8) -> Option<&N> {
-        self.block.as_slice()[key as usize].as_ref()
+        if self.block.keys().bytes.check(key as usize) {
+            Some(self.block.get(key as usize))
+        } else {
+            None
+        }
     }
 
     #[inline(always)]
     fn seek_child_mut(&mut self, key: u8) -> Option<&mut N> {
-        if self.block.as_slice()[key as usize].is_some() {
-            self.block.item_mut(key as usize).as_mut()
+        if self.block.keys().bytes.check(key as usize) {
+            Some(self.block.get_mut(key as usize))
         } else {
             None
         }
@@ -241,13 +247,13 @@ impl<N, E> NodeMapping<N, 256> for DirectMapping<N, E> {
 
     #[inline(always)]
     fn delete_child(&mut self, key: u8) -> Option<N> {
-        let Some(child) = self.block.item_mut(key as usize).take() else {
+        if !self.block.keys().bytes.check(key as usize) {
             return None;
-        };
+        }
         let used = self.block.keys_mut();
         used.bytes.unset(key as usize);
         used.count -= 1;
-        Some(child)
+        Some(self.block.take(key as usize))
     }
 
     #[inline(always)]
@@ -277,43 +283,7 @@ impl<N, E> DirectMapping<N, E> {
         ensures { result ≡ self.extra }
     {
         let DirectMapping { block } = self;
-        let mut block = block;
-        pop_places(&mut block);
         let (extra, _) = block.destroy_empty();
         extra
-    }
-}
-
-/// Pushes all 256 places, without children.
-fn push_places<N, E>(block: &mut Block<E, Used, Option<N>, 256>)
-    requires { block.old.items ≡ [] }
-    ensures { block.new ≡ with_items block.old (replicate 256 None) }
-{
-    for i in 0..256usize {
-        block.push(None);
-    }
-}
-
-/// Removes all places, which have no children.
-fn pop_places<N, E>(block: &mut Block<E, Used, Option<N>, 256>)
-    requires { values_in block.old.items ≡ [] }
-    ensures { block.new ≡ with_items block.old [] }
-{
-    while let Some(place) = block.pop() {
-        match place {
-            Some(_) => unreachable!(),
-            None => {}
-        }
-    }
-}
-
-/// Stores a value in an empty place. It drops nothing, so `X` needs no `Drop`.
-fn fill_place<X>(place: &mut Option<X>, x: X)
-    requires { place.old ≡ None }
-    ensures { place.new ≡ Some x }
-{
-    match mem::replace(place, Some(x)) {
-        Some(_) => unreachable!(),
-        None => {}
     }
 }

@@ -152,7 +152,7 @@ module _ (H : RattleType) (w : ℕ) (R R' : RattleType) (h : R.Denot → R'.Deno
   shared_placed p x xs apart = λ i. beside (lent_at H (p +ₚ head_at) x) (seen_placed p xs apart i)
 
 -- in the third part of a code
-in_third : {a b x y c : Gv} → x ≡ y → gcons a (gcons b (gcons x c)) ≡ gcons a (gcons b (gcons y c))
+pub in_third : {a b x y c : Gv} → x ≡ y → gcons a (gcons b (gcons x c)) ≡ gcons a (gcons b (gcons y c))
 in_third {a} {b} {c = c} e = λ i. gcons a (gcons b (gcons (e i) c))
 
 module _ (H W R R' : RattleType) (h : R.Denot → R'.Denot) where

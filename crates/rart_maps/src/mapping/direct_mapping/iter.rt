@@ -4,6 +4,7 @@ ghost use Rattle.std.specs.Iterator.{UpTo, YieldsFirst, YieldsFirstBy, item_coun
 ghost use Rattle.std.specs.Iterator.SizeHint.{IsWithinCount};
 
 use crate::mapping::{DirectMapping, NodeMapping};
+use rart_block::Slots;
 use rart_parts::utils::bitset::BitsetOnesIter;
 use std::iter::FusedIterator;
 use std::marker::Model;
@@ -12,7 +13,7 @@ use std::marker::Model;
 #[derive(Drop)]
 pub struct DirectMappingIter<'a, N> {
     pub(super) bytes: BitsetOnesIter<u64, 4>,
-    pub(super) places: &'a [Option<N>],
+    pub(super) slots: Slots<'a, N>,
 }
 
 impl<'a, N> Model for DirectMappingIter<'a, N> {
@@ -24,9 +25,9 @@ impl<'a, N> Model for DirectMappingIter<'a, N> {
 
     ghost coded = { coded_list (coded× coded_ℕ N.code) };
 
-    ghost view = { λ it. in_places it.bytes it.places.now };
+    ghost view = { λ it. in_places it.bytes it.slots.items };
 
-    ghost invariant = { λ it. AreFilled it.places.now it.bytes };
+    ghost invariant = { λ it. AreFilled it.slots.items it.bytes };
 }
 
 impl<'a, N> Iterator for DirectMappingIter<'a, N> {
@@ -41,13 +42,7 @@ impl<'a, N> Iterator for DirectMappingIter<'a, N> {
         let Some(byte) = self.bytes.next() else {
             return None;
         };
-        let Some(place) = self.places.get(byte) else {
-            unreachable!()
-        };
-        match place {
-            Some(child) => Some((byte as u8, child)),
-            None => unreachable!(),
-        }
+        Some((byte as u8, self.slots.get(byte)))
     }
 }
 

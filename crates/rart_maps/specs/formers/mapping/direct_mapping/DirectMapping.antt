@@ -1,5 +1,5 @@
 -- `DirectMapping` as a type that may hold the type that holds it, by its children.
-use Rattle.std.specs.Prelude.{◌≡◌, ℕ, suc, List, [], ◌∷◌, map, length, Option, None, Some}
+use Rattle.std.specs.Prelude.{◌≡◌, ℕ, zero, suc, List, [], ◌∷◌, map, length, Option, None, Some}
 use mathlib.Core.Path.{refl, sym, ap, ◌∙◌}
 use mathlib.Core.Former.{Former, one_more, this, list, via, children}
 use native.Mathlib.Nat.{ℕ_set}
@@ -13,14 +13,12 @@ use denote.Hole.Carrier.{listed}
 use denote.Hole.Fix.{over}
 use denote.Param.Weighed.{Weighed}
 use denote.Model.Placed.{held, view_places}
-use Rattle.std.specs.contracts.option.Option as option
-use Rattle.rart_parts.specs.formers.utils.bitarray.BitArray as places
-use Rattle.rart_parts.specs.formers.utils.bitarray.BitArray.{place}
 use Rattle.rart_maps.specs.EntryShapes.{entry, on_value}
 use Rattle.rart_parts.specs.Bits.{words_have}
 use Rattle.rart_maps.specs.Direct.{IsDirect}
-use Rattle.rart_parts.specs.Places.{Agrees, numbered_values}
-use Rattle.rart_block.specs.formers.block.Block as block
+use Rattle.rart_parts.specs.Places.{Agrees, is_used, numbered_values}
+use Rattle.rart_block.specs.formers.raw_sparse.RawSparseBlock.{slot_former, slot_map}
+use Rattle.rart_block.specs.formers.sparse_block.SparseBlock as block
 use Rattle.rart_maps.specs.Contents.{Contents}
 use Rattle.rart_maps.specs.formers.mapping.sorted_keyed_mapping.SortedKeyedMapping as sorted
 use Rattle.rart_maps.specs.declared.mapping.direct_mapping.Used.{Used}
@@ -43,24 +41,30 @@ pub the_items_listed : (E X : Type 0) (c : Contents X E) → listed _ (children 
 the_items_listed E X c = sorted.the_items_listed 256 E X c
 
 abbrev fields : Type 0 → Former {0}
-fields E = via (block.the_former (place this) E Used 256) (λ X. Inside X E) (λ X a. a.block)
+fields E = via (block.the_former this E Used 256) (λ X. Inside X E) (λ X a. a.block)
     (λ X v. record { block = v })
     (λ X a. refl) (λ X v. refl)
 
 pub numbered-map : {X Y : Type 0} (h : X → Y) (n : ℕ) (os : List (Option X))
-    → numbered_values n (map ((place this).map X Y h) os) ≡ map (on_value h) (numbered_values n os)
+    → numbered_values n (map (slot_map h) os) ≡ map (on_value h) (numbered_values n os)
 numbered-map h n [] = refl
 numbered-map h n (None ∷ os) = numbered-map h (suc n) os
 numbered-map h n (Some x ∷ os) = ap (λ l. (n, h x) ∷ l) (numbered-map h (suc n) os)
 
 numbered-held : (X : Type 0) (n : ℕ) (os : List (Option X)) → held (list (entry this)) X (numbered_values n os)
-    ≡ held (list (place this)) X os
+    ≡ held (list (slot_former this)) X os
 numbered-held X n [] = refl
 numbered-held X n (None ∷ os) = numbered-held X (suc n) os
 numbered-held X n (Some x ∷ os) = λ i. (
   one_more (numbered-held X (suc n) os i).0,
   (x, (numbered-held X (suc n) os i).1),
 )
+
+used_along : {X Y : Type 0} (h : X → Y) (os : List (Option X)) (k : ℕ) → is_used (map (slot_map h) os) k ≡ is_used os k
+used_along h [] k = refl
+used_along h (None ∷ os) zero = refl
+used_along h (Some x ∷ os) zero = refl
+used_along h (o ∷ os) (suc k) = used_along h os k
 
 abbrev AreSet : {X : Type 0} → List ℕ → List (Option X) → Type 0
 AreSet ws os = Agrees 256 (words_have 64 (λ w. w) ws) os
@@ -73,21 +77,21 @@ direct-prop ws n os = λ x y i. (
 
 module _ {X Y : Type 0} (h : X → Y) (ws : List ℕ) (n : ℕ) (os : List (Option X)) where
   abbrev moved : List (Option Y)
-  moved = map ((place this).map X Y h) os
+  moved = map (slot_map h) os
 
   same_count : length (numbered_values 0 moved) ≡ length (numbered_values 0 os)
   same_count = ap length (numbered-map h 0 os) ∙ length-map (numbered_values 0 os) (on_value h)
 
   along : IsDirect os n × AreSet ws os → IsDirect moved n × AreSet ws moved
   along e = (
-    record { full = length-map os ((place this).map X Y h) ∙ e.0.full; counted = e.0.counted ∙ sym same_count },
-    λ k l. e.1 k l ∙ sym (places.used_along h os k),
+    record { full = length-map os (slot_map h) ∙ e.0.full; counted = e.0.counted ∙ sym same_count },
+    λ k l. e.1 k l ∙ sym (used_along h os k),
   )
 
   back : IsDirect moved n × AreSet ws moved → IsDirect os n × AreSet ws os
   back e = (
-    record { full = sym (length-map os ((place this).map X Y h)) ∙ e.0.full; counted = e.0.counted ∙ same_count },
-    λ k l. e.1 k l ∙ places.used_along h os k,
+    record { full = sym (length-map os (slot_map h)) ∙ e.0.full; counted = e.0.counted ∙ same_count },
+    λ k l. e.1 k l ∙ used_along h os k,
   )
 
 module _ (E : RattleType) (R R' : RattleType) (h : R.Denot → R'.Denot) where
@@ -104,11 +108,8 @@ module _ (E : RattleType) (R R' : RattleType) (h : R.Denot → R'.Denot) where
       (λ u e. back h u.block.keys.bytes.words u.block.keys.count u.block.items e)
       (over (I.the_row R E)) (over (I.the_row R' E))
       (struct_places (I.the_type R E) (I.the_type R' E)
-      ((block.the_former (place this) E.Denot Used 256).map R.Denot R'.Denot h, tt) _ (λ d. refl) refl (
-        laid _ _ _ (block.the_places E used.the_row (number 256) (option.the_row R) (option.the_row R')
-            ((place this).map R.Denot R'.Denot h) (places.place_alike R R' h a)),
-        tt,
-      ))
+      ((block.the_former this E.Denot Used 256).map R.Denot R'.Denot h, tt) _ (λ d. refl) refl
+      (laid _ _ _ (block.the_places E used.the_row (number 256) R R' h a), tt))
 
   pub the_codes_placed : Recodes R R' h → Recodes (C.the_row R E) (C.the_row R' E) (former.map R.Denot R'.Denot h)
   the_codes_placed e c = ap (λ es. gcons (E.coded.code c.extra) es)

@@ -1,7 +1,10 @@
-use Rattle.std.proofs.Common.{◌∙◌, ap}
-use Rattle.rart_maps.proofs.DirectLemmas.{numbered_valueless}
+use Rattle.std.proofs.Common.{None, ◌∙◌, ap, arith, replicate}
+use Rattle.rart_maps.proofs.DirectLemmas.{numbered_vacant}
 use Rattle.rart_maps.proofs.mapping.direct_mapping.DirectMapping.destroy_empty.Goals as goal
 
-pub pop_places-requires : goal.pop_places-requires
-pop_places-requires g c = numbered_valueless 0 c.self.inside.block.items
-    (ap (λ d. d.entries) c.self.view_is ∙ c.requires)
+pub destroy_empty-extra-requires : goal.destroy_empty-extra-requires
+destroy_empty-extra-requires g c = (
+  omega arith,
+  numbered_vacant 0 c.self.inside.block.items (ap (λ d. d.entries) c.self.view_is ∙ c.requires)
+      ∙ ap (λ n. replicate n None) c.self.invariant.0.full,
+)

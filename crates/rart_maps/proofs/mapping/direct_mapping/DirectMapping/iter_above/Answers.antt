@@ -7,12 +7,12 @@ use Rattle.rart_maps.proofs.DirectPlaces.{above_filled, all_filled, has_byte, pl
 use Rattle.rart_maps.proofs.mapping.direct_mapping.DirectMapping.iter_above.Goals as goal
 
 pub invariant_of-result : goal.invariant_of-result
-invariant_of-result g c = rw (c.as_slice.ensures, c.pass.ensures, c.iter-bytes.ensures, c.keys.ensures)
+invariant_of-result g c = rw (c.slots.ensures, c.pass.ensures, c.iter-bytes.ensures, c.keys.ensures)
     (above_filled c.args.byte c.self.inside.block.items _ (all_filled c.self.inside.block.keys.bytes.words
     c.self.inside.block.items c.self.invariant.0.full c.self.invariant.1))
 
 pub returns-clause-entries : goal.returns-clause-entries
-returns-clause-entries g c = rw (c.as_slice.ensures, c.pass.ensures, c.iter-bytes.ensures, c.keys.ensures)
+returns-clause-entries g c = rw (c.slots.ensures, c.pass.ensures, c.iter-bytes.ensures, c.keys.ensures)
     (places_above c.args.byte c.self.inside.block.items
     (members_from (has_byte c.self.inside.block.keys.bytes.words) 0 256)
     ∙ ap (entries_above c.args.byte) (walk_all c.self.inside.block.keys.bytes.words c.self.inside.block.items
