@@ -7,7 +7,7 @@ use Rattle.rart.specs.LawAnswers.{IsCounted}
 use Rattle.rart.specs.MapAndShape.{MapAndShape}
 
 -- keys have one shape
-abbrev pub OneShape : Type 0
+abbrev OneShape : Type 0
 OneShape = (s : List (List ℕ)) (xs ys : List (List ℕ × NodeRecord)) → HasShape s xs → HasShape s ys → xs ≡ ys
 
 module _ {V : Type 0} where

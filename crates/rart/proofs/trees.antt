@@ -1,6 +1,5 @@
 pub mod AppendLemmas
 pub mod EditLemmas
-pub mod EqualLemmas
 pub mod FieldLemmas
 pub mod HeldLemmas
 pub mod Lending

@@ -4,7 +4,7 @@ use Rattle.std.proofs.Common.{◌∙◌, arith}
 use Rattle.rart_block.specs.Contents.{Contents, with_items}
 
 -- a list is itself without its last item, and then that item
-pub last_removed : {X : Type 0} (xs : List X) (n : ℕ) (x : X) → n + 1 ≡ length xs → slice_get xs n ≡ Some x
+last_removed : {X : Type 0} (xs : List X) (n : ℕ) (x : X) → n + 1 ≡ length xs → slice_get xs n ≡ Some x
     → xs ≡ remove xs n ++ x ∷ []
 last_removed [] n x e at = absurd (omega arith)
 last_removed (y ∷ []) zero x e at = cc

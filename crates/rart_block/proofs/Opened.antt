@@ -30,7 +30,7 @@ module _ (P : Parts) where
   abbrev pub Owned : Ptr → Value P → Fml
   Owned p b = block_owned (H P) (X P) (w P) global_token p b.head b.items b.apart
 
-  abbrev pub Seen : Ptr → Value P → Lft → Fml
+  abbrev Seen : Ptr → Value P → Lft → Fml
   Seen p b = block_shared (H P) (X P) (w P) p b.head b.items b.apart
 
   module _ {M : Type 1} {𝓤 : Ura M} (𝓛 : Logic 𝓤) where

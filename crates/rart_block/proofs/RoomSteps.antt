@@ -23,14 +23,14 @@ use Rattle.rart_block.specs.contracts.raw.Layout as L
 use Rattle.rart_block.specs.contracts.raw.Room as M
 use Rattle.rart_block.specs.Memory.{global_token, layout_type, empty_fields}
 
-abbrev pub vacant_val : Val → ℕ → ℕ → Val
+abbrev vacant_val : Val → ℕ → ℕ → Val
 vacant_val hv k o = vstruct (vcons (vptr k o) (vcons hv vnil))
 
 abbrev pub room_val : Val → ℕ → ℕ → Val
 room_val hv k o = vstruct (vcons (vacant_val hv k o) vnil)
 
 module _ (P : Parts) where
-  abbrev pub Vacant : RattleType
+  abbrev Vacant : RattleType
   Vacant = V.the_row (L.the_row (H P) (X P) (W P)) heap.the_row ghosts
 
   abbrev vacant_shape : Shape

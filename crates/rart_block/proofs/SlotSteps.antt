@@ -24,7 +24,7 @@ within (o ∷ os) zero x e = omega arith
 within (o ∷ os) (suc i) x e = omega (arith, within os i x e)
 
 module _ (P : Parts) where
-  abbrev pub Item : Type 0
+  abbrev Item : Type 0
   Item = P.item.Denot
 
   abbrev pub s : ℕ

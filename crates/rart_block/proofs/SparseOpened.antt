@@ -20,7 +20,7 @@ module _ (P : Parts) where
   abbrev pub Owned : Ptr → Held → Fml
   Owned p b = sparse_owned (H P) (X P) (w P) global_token p b.head b.slots
 
-  abbrev pub Seen : Ptr → Held → Lft → Fml
+  abbrev Seen : Ptr → Held → Lft → Fml
   Seen p b = sparse_shared (H P) (X P) (w P) p b.head b.slots
 
   module _ {M : Type 1} {𝓤 : Ura M} (𝓛 : Logic 𝓤) where

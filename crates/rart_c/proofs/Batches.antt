@@ -73,10 +73,6 @@ module _ {P A Y : Type 0} (read : P → A) (show : Y → A) where
         left = sym (lt-ltb (length old) (length all) below);
       }
 
--- a batch of no pairs
-pub batch-none : {P A : Type 0} (read : P → A) (old : List P) → IsBatch read [] old old 0 false
-batch-none read old = batch-whole read (λ a. a) old old 0 [] [] (filled-none read (λ a. a) old) refl
-
 -- a batch of pairs that are written in another way
 pub batch-of : {P A : Type 0} {read : P → A} {all all' : List A} {old new : List P} {written : ℕ} {more : Bool} → all ≡
     all'

@@ -23,7 +23,7 @@ within-step : (place width l : ℕ) (ls : List ℕ) (long : Bool) → nat_lt wid
 within-step place width l ls true is e = cc
 within-step place width l ls false is e = (ltb-false width l is, e)
 
-pub none-within : (place width : ℕ) (ls : List ℕ) → first_too_long_from place width ls ≡ None → AreWithin width ls
+none-within : (place width : ℕ) (ls : List ℕ) → first_too_long_from place width ls ≡ None → AreWithin width ls
 none-within place width [] e = tt
 none-within place width (l ∷ ls) e =
     let s = within-step place width l ls (nat_lt width l) refl e in (s.0, none-within (suc place) width ls s.1)

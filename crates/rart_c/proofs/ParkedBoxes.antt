@@ -67,7 +67,7 @@ module _ (R : RattleType) where
   stored_well (block_ptr b o) = (tt, (tt, tt))
 
   -- the right to free the block of a box shows that its pointer can be tested
-  pub box_tests : {M : Type 1} {𝓤 : Ura M} (𝓛 : Logic 𝓤) (p : Ptr) (x : R.Denot)
+  box_tests : {M : Type 1} {𝓤 : Ura M} (𝓛 : Logic 𝓤) (p : Ptr) (x : R.Denot)
       → ent 𝓤 (sem 𝓛 (box_owns (ghosts.dealloc_token heap) R p x))
       (guard 𝓤 (Testable p) (sem 𝓛 (box_owns (ghosts.dealloc_token heap) R p x)))
   box_tests {𝓤 = 𝓤} 𝓛 p x =

@@ -18,3 +18,4 @@ pub use crate::keys::array_key::ArrayKey;
 pub use crate::partials::Partial;
 pub use crate::partials::array_partial::ArrPartial;
 pub use crate::strip::strip_prefix;
+pub use crate::texts::write_bytes;

@@ -5,8 +5,13 @@ ghost use Rattle.rart_keys.specs.ByteTexts.{byte_text, is_plain, key_text};
 
 use std::fmt;
 
-// Writes the text of `bytes`.
-pub(crate) fn write_bytes<W: fmt::Write>(bytes: &[u8], f: &mut fmt::Formatter<W>) -> fmt::Result
+/// Writes the text of `bytes`, as [`ArrayKey`](crate::ArrayKey) and [`TailKey`](crate::TailKey) are written. It does not
+/// allocate.
+///
+/// # Errors
+///
+/// Fails when the writer fails.
+pub fn write_bytes<W: fmt::Write>(bytes: &[u8], f: &mut fmt::Formatter<W>) -> fmt::Result
     ensures { WritesOnOk W.write_str_gives f.old result (key_text bytes.now) f.new }
 {
     for byte in bytes {

@@ -31,7 +31,7 @@ any-with_first b x [] = refl
 any-with_first b x (y ∷ bs) = ⊎_elim (λ e. rw (eq-yes x y e, e) (or_twice (y == b) (list_any (λ c. c == b) bs)))
     (λ n. rw (eq-no x y n) refl) (equal_or_not x y)
 
-pub next-begun : (s : List (List ℕ)) (p : List ℕ) (b : ℕ) → list_any (λ c. c == b) (next_bytes s p)
+next-begun : (s : List (List ℕ)) (p : List ℕ) (b : ℕ) → list_any (λ c. c == b) (next_bytes s p)
     ≡ begins_any (p ++ b ∷ []) s
 next-begun [] p b = refl
 next-begun (k ∷ s) p b = rw (after-begins p k b)
@@ -42,7 +42,7 @@ next-begun (k ∷ s) p b = rw (after-begins p k b)
     ])
 
 -- ascending, from low on
-abbrev pub AreUp : ℕ → List ℕ → Type 0
+abbrev AreUp : ℕ → List ℕ → Type 0
 AreUp low [] = Unit {0}
 AreUp low (b ∷ bs) = (low ≤ b) × AreUp (suc b) bs
 
@@ -119,7 +119,7 @@ module _ {V : Type 0} where
             (up-with_first c (next_bytes (keys_of es) p) (next-up_from p e.0 c es g w.0 w.1))
       ] refl
 
-  pub next-up : (p : List ℕ) (es : List (List ℕ × V)) → IsAscending es → AreUp 0 (next_bytes (keys_of es) p)
+  next-up : (p : List ℕ) (es : List (List ℕ × V)) → IsAscending es → AreUp 0 (next_bytes (keys_of es) p)
   next-up p [] w = tt
   next-up p (e ∷ es) w = elim (byte_after p e.0) as (λ o. byte_after p e.0 ≡ o
       → AreUp 0 (without_repeats (cons_option o (filter_map (byte_after p) (keys_of es))))) [

@@ -7,7 +7,7 @@ use Rattle.std.proofs.Math.Numerals.{one-add}
 use Rattle.rart_lines.specs.Words.{is_separator, is_nonempty, words_of, word_len, gap_len}
 
 -- the parts that are not empty
-abbrev pub nonempty : List (List ℕ) → List (List ℕ)
+abbrev nonempty : List (List ℕ) → List (List ℕ)
 nonempty parts = filter is_nonempty parts
 
 -- xs cut at its first separator: the other parts' words are those of what begins there
@@ -27,7 +27,7 @@ cut_step x xs parts false e h = (
   },
 )
 
-pub cut : (xs : List ℕ) → (parts : List (List ℕ)) × IsCut xs parts
+cut : (xs : List ℕ) → (parts : List (List ℕ)) × IsCut xs parts
 cut [] = ([], record { first = refl; others = refl })
 cut (x ∷ xs) = let h = cut xs in cut_step x xs h.0 (is_separator x) refl h.1
 

@@ -16,7 +16,7 @@ pub no_slots : (n : ℕ) → map slot_of (replicate n 255) ≡ replicate n None
 no_slots zero = refl
 no_slots (suc n) = ap (λ l. None ∷ l) (no_slots n)
 
-pub slot_below : (s : ℕ) → s < 255 → slot_of s ≡ Some s
+slot_below : (s : ℕ) → s < 255 → slot_of s ≡ Some s
 slot_below s h = ap (λ b. cond b None (Some s)) (ne_eqb s 255 (λ q. omega (arith, q, h)))
 
 length-map_slots : (xs : List ℕ) → length (map slot_of xs) ≡ length xs
@@ -83,7 +83,7 @@ members-bytes test from (suc count) h =
     ]
 
 -- from byte n on the row is xs
-pub walked : (test : ℕ → Bool) (slots xs : List ℕ) (n : ℕ)
+walked : (test : ℕ → Bool) (slots xs : List ℕ) (n : ℕ)
     → ((j : ℕ) → j < length xs → test (n + j) ≡ is_used (map slot_of xs) j)
     → ((j : ℕ) → j < length xs → get_or slots (n + j) 0 ≡ get_or xs j 0)
     → with_slots slots (members_from test n (length xs)) ≡ numbered_values n (map slot_of xs)

@@ -29,7 +29,7 @@ some_same : {X : Type 0} {x y : X} → Some x ≡ Some y → x ≡ y
 some_same h = cc
 
 -- ---- as places, all of which have a child
-pub length-filled : {X : Type 0} (vs : List X) → length (filled vs) ≡ length vs
+length-filled : {X : Type 0} (vs : List X) → length (filled vs) ≡ length vs
 length-filled [] = refl
 length-filled (v ∷ vs) = omega (arith, length-filled vs)
 
@@ -138,7 +138,7 @@ pub nothing_yet : (X : Type 0) {E : Type 0} (e : E) (ks : List ℕ)
 nothing_yet X e [] = refl
 nothing_yet X e (k ∷ ks) = refl
 
-pub length-sorted : {X : Type 0} (es : List (ℕ × X)) → length (sorted_entries es) ≡ length es
+length-sorted : {X : Type 0} (es : List (ℕ × X)) → length (sorted_entries es) ≡ length es
 length-sorted [] = refl
 length-sorted (e ∷ es) = length-with_another e.0 e.1 (sorted_entries es) ∙ ap suc (length-sorted es)
   where
@@ -148,13 +148,13 @@ length-sorted (e ∷ es) = length-with_another e.0 e.1 (sorted_entries es) ∙ a
     length-with_another k x (e ∷ es) = grind (arith, length-with_another k x es)
 
 module _ {X : Type 0} {width : ℕ} {at : List (Option ℕ)} {bs : List ℕ} {vs : List X} (d : IsDense width at bs vs) where
-  pub fits : length vs ≤ length bs
+  fits : length vs ≤ length bs
   fits = omega (arith, d.full, d.few)
 
   byte_at : (p : ℕ) → p < length vs → byte_of at p ≡ get_or bs p 0
   byte_at p l = byte_of_only at (get_or bs p 0) p (d.is_named p l) (λ j e. sym (d.has_byte j p e))
 
-  pub index_of : IsIndex at (filled vs)
+  index_of : IsIndex at (filled vs)
   index_of = record {
     whole = d.whole;
     one_byte = λ k p e. byte_at p (d.has_child k p e) ∙ d.has_byte k p e;
@@ -163,7 +163,7 @@ module _ {X : Type 0} {width : ℕ} {at : List (Option ℕ)} {bs : List ℕ} {vs
         ap (λ k. get_or at k None) (byte_at p l) ∙ d.is_named p l;
   }
 
-  pub bytes_are : with_bytes at 0 (filled vs) ≡ zip bs vs
+  bytes_are : with_bytes at 0 (filled vs) ≡ zip bs vs
   bytes_are = bytes_zip at 0 bs vs fits
       (λ r l. (let z : 0 + r ≡ r = omega arith in ap (byte_of at) z) ∙ byte_at r l)
 
@@ -177,7 +177,7 @@ module _ {X : Type 0} {width : ℕ} {at : List (Option ℕ)} {bs : List ℕ} {vs
       → child_at k (sorted_entries (zip bs vs)) ≡ get_or (filled vs) p None
   dense_some k p e = sym (ap (λ es. child_at k (sorted_entries es)) bytes_are) ∙ indexed_some index_of k p e
 
-  pub dense_unnamed : (k : ℕ) → child_at k (sorted_entries (zip bs vs)) ≡ None → get_or at k None ≡ None
+  dense_unnamed : (k : ℕ) → child_at k (sorted_entries (zip bs vs)) ≡ None → get_or at k None ≡ None
   dense_unnamed k e = by_index _ (get_or at k None) refl
       (λ p f. absurd (none_some (sym e ∙ dense_some k p f ∙ (filled_read vs p (d.has_child k p f)).1)))
       (λ f. f)
@@ -267,7 +267,7 @@ module _ {X : Type 0} {width : ℕ} {at : List (Option ℕ)} {bs : List ℕ} {vs
 
   -- another child in a slot
   module _ (k p : ℕ) (named : get_or at k None ≡ Some p) (w : X) where
-    pub written_dense : IsDense width at bs (set vs p w)
+    written_dense : IsDense width at bs (set vs p w)
     written_dense = record {
       whole = d.whole;
       full = d.full;

@@ -64,7 +64,7 @@ module _ {X : Type 0} (os : List (Option X)) where
         | Some x ↦ at_other k (n, x) (by_bytes (suc n) at os) (λ e. omega (arith, e, h)) ∙ rest
       ]
 
-  pub walk_none : (n k i : ℕ) (at : List (Option ℕ)) → k ≡ n + i → get_or at i None ≡ None
+  walk_none : (n k i : ℕ) (at : List (Option ℕ)) → k ≡ n + i → get_or at i None ≡ None
       → child_at k (by_bytes n at os) ≡ None
   walk_none n k i [] e f = refl
   walk_none n k zero (None ∷ at) e f = walk_below (suc n) k at (omega arith)
@@ -78,7 +78,7 @@ module _ {X : Type 0} (os : List (Option X)) where
         | Some x ↦ at_other k (n, x) (by_bytes (suc n) at os) (λ g. omega (arith, e, g)) ∙ rest
       ]
 
-  pub walk_some : (n k i p : ℕ) (at : List (Option ℕ)) → k ≡ n + i → get_or at i None ≡ Some p
+  walk_some : (n k i p : ℕ) (at : List (Option ℕ)) → k ≡ n + i → get_or at i None ≡ Some p
       → child_at k (by_bytes n at os) ≡ get_or os p None
   walk_some n k i p [] e f = absurd (none_some f)
   walk_some n k zero p (None ∷ at) e f = absurd (none_some f)

@@ -60,7 +60,7 @@ module _ {X : Type 0} (k : ℕ) where
     twice true a r = refl
     twice false a r = refl
 
-    pub slot_changed : (ks : List ℕ) (os : List (Option X)) (q : ℕ) → q < length ks → q < length os
+    slot_changed : (ks : List ℕ) (os : List (Option X)) (q : ℕ) → q < length ks → q < length os
         → ((r : ℕ) → r ≢ q → is_used os r ≡ true → get_or ks r 0 ≡ k → ⊥) → (is_used os q ≡ true → get_or ks q 0 ≡ k)
         → child_at b (with_keys (set ks q key') (set os q o)) ≡ cond (eqb k b) o (child_at b (with_keys ks os))
     slot_changed [] os q h h' alone was = absurd (omega arith)
@@ -179,7 +179,7 @@ module _ {X : Type 0} {ks : List ℕ} {os : List (Option X)} (s : IsSlots ks os)
     still_used : (r : ℕ) → r ≢ p → is_used (set os p (Some x)) r ≡ true → is_used os r ≡ true
     still_used r n u = sym (ap (λ c. c || is_used os r) (ne_eqb r p n)) ∙ sym (used_with os p x r h) ∙ u
 
-    pub slots_put : IsSlots (set ks p key) (set os p (Some x))
+    slots_put : IsSlots (set ks p key) (set os p (Some x))
     slots_put = record {
       whole = length-set ks p key ∙ s.whole ∙ sym (length-set os p (Some x));
       apart = λ i j u v e. ⊎_elim
@@ -224,7 +224,7 @@ module _ {X : Type 0} {ks : List ℕ} {os : List (Option X)} (s : IsSlots ks os)
         (λ t. (sym (ap (λ c. not c && is_used os r) t.0) ∙ sym (used_without os p r) ∙ v, t.1))
         (eqb_tells r p)
 
-    pub slots_taken : IsSlots (set ks p 255) (set os p None)
+    slots_taken : IsSlots (set ks p 255) (set os p None)
     slots_taken = record {
       whole = length-set ks p 255 ∙ s.whole ∙ sym (length-set os p None);
       apart = λ i j v w g. let a = left i v in let b = left j w in
@@ -253,7 +253,7 @@ module _ {X : Type 0} {ks : List ℕ} {os : List (Option X)} (s : IsSlots ks os)
           (λ t. ap (λ c. c || is_used os r) t.0)
           (eqb_tells r p)
 
-      pub slots_written : IsSlots ks (set os p (Some w))
+      slots_written : IsSlots ks (set os p (Some w))
       slots_written = record {
         whole = s.whole ∙ sym (length-set os p (Some w));
         apart = λ i j v t g. s.apart i j (sym (same_used i) ∙ v) (sym (same_used j) ∙ t) g;

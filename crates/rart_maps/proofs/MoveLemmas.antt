@@ -13,11 +13,11 @@ module _ {X : Type 0} (k : ℕ) (x : X) (s : List (ℕ × X)) where
   all_below b (e ∷ t) h a = omega (arith, h, all_below e.0 t a.0 a.1)
 
   -- the next entry is moved to the end
-  pub put_last : (t : List (ℕ × X)) → BytesAscend (t ++ (k, x) ∷ s) → with_entry k x t ≡ t ++ (k, x) ∷ []
+  put_last : (t : List (ℕ × X)) → BytesAscend (t ++ (k, x) ∷ s) → with_entry k x t ≡ t ++ (k, x) ∷ []
   put_last [] a = refl
   put_last (e ∷ t) a = with_after k x e t (all_below e.0 t a.0 a.1) ∙ ap (λ l. e ∷ l) (put_last t a.1)
 
-  pub absent_last : (t : List (ℕ × X)) → BytesAscend (t ++ (k, x) ∷ s) → child_at k t ≡ None
+  absent_last : (t : List (ℕ × X)) → BytesAscend (t ++ (k, x) ∷ s) → child_at k t ≡ None
   absent_last [] a = refl
   absent_last (e ∷ t) a = at_other k e t (λ q. omega (arith, q, all_below e.0 t a.0 a.1)) ∙ absent_last t a.1
 
@@ -29,11 +29,11 @@ module _ {X : Type 0} (k : ℕ) (x : X) (s : List (ℕ × X)) where
       go [] a = a
       go (e ∷ s) a = go s a.1
 
-  pub put_first : (t : List (ℕ × X)) → BytesAscend (s ++ (k, x) ∷ t) → with_entry k x t ≡ (k, x) ∷ t
+  put_first : (t : List (ℕ × X)) → BytesAscend (s ++ (k, x) ∷ t) → with_entry k x t ≡ (k, x) ∷ t
   put_first [] a = refl
   put_first (e ∷ t) a = with_before k x e t (back_ascends (e ∷ t) a).0
 
-  pub absent_first : (t : List (ℕ × X)) → BytesAscend (s ++ (k, x) ∷ t) → child_at k t ≡ None
+  absent_first : (t : List (ℕ × X)) → BytesAscend (s ++ (k, x) ∷ t) → child_at k t ≡ None
   absent_first t a = let b = back_ascends t a in below_start k k t b.0 b.1 (omega arith)
 
 some_none : {X : Type 0} {x : X} → Some x ≡ None → ⊥
@@ -88,7 +88,7 @@ module _ {X : Type 0} (whole rest moved : List (ℕ × X)) (e : ℕ × X) (a : B
   pub taken_fits : (width : ℕ) → length whole ≤ width → length moved < width
   taken_fits width h = omega (arith, ap length joined, length-append rest (e ∷ moved), h)
 
-pub suffix-ascends : {X : Type 0} (t s : List (ℕ × X)) → BytesAscend (t ++ s) → BytesAscend s
+suffix-ascends : {X : Type 0} (t s : List (ℕ × X)) → BytesAscend (t ++ s) → BytesAscend s
 suffix-ascends [] s a = a
 suffix-ascends (e ∷ t) s a = suffix-ascends t s a.1
 

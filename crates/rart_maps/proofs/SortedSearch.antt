@@ -12,7 +12,7 @@ use Rattle.rart_maps.proofs.Zipped.{child_found, child_none, replaced_found, set
 use Rattle.rart_maps.proofs.SortedLemmas.{fits, ordered}
 
 -- the keys read are those of the map
-pub sorted_at : {X : Type 0} {width : ℕ} {ks ks' : List ℕ} {vs : List X} → ks' ≡ ks → IsSortedKeyed width ks vs width
+sorted_at : {X : Type 0} {width : ℕ} {ks ks' : List ℕ} {vs : List X} → ks' ≡ ks → IsSortedKeyed width ks vs width
     → IsSortedKeyed width ks' vs width
 sorted_at {width = width} {vs = vs} e s = subst (λ k. IsSortedKeyed width k vs width) (sym e) s
 

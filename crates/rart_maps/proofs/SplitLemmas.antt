@@ -8,7 +8,7 @@ use Rattle.rart_parts.proofs.entries.EntryLemmas.{length-with_entry}
 use Rattle.rart_parts.proofs.entries.EntryLemmas.{length-without_byte, with_entry-ascends, without_byte-ascends}
 
 -- the first of two answers
-abbrev pub either : {X : Type 0} → Option X → Option X → Option X
+abbrev either : {X : Type 0} → Option X → Option X → Option X
 either None o = o
 either (Some x) o = Some x
 

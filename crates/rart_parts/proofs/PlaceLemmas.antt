@@ -51,7 +51,7 @@ tail_used o os j =
     ap (is_used (o ∷ os)) next ∙ ap (is_used os) same
 
 -- as many values as used places
-pub length-values_in : {X : Type 0} (os : List (Option X)) → length (members (is_used os) (length os))
+length-values_in : {X : Type 0} (os : List (Option X)) → length (members (is_used os) (length os))
     ≡ length (values_in os)
 length-values_in [] = refl
 length-values_in (None ∷ os) = length-members_from-moved (is_used (None ∷ os)) (is_used os) 1 0 (length os)
@@ -63,12 +63,12 @@ length-values_in (Some x ∷ os) = omega (
   length-values_in os,
 )
 
-pub values_in-none : {X : Type 0} (os : List (Option X)) → ((i : ℕ) → is_used os i ≡ false) → values_in os ≡ []
+values_in-none : {X : Type 0} (os : List (Option X)) → ((i : ℕ) → is_used os i ≡ false) → values_in os ≡ []
 values_in-none [] h = refl
 values_in-none (None ∷ os) h = values_in-none os (λ i. h (suc i))
 values_in-none (Some x ∷ os) h = absurd (false≢true (sym (h 0)))
 
-pub none_in : {X : Type 0} (os : List (Option X)) → values_in os ≡ [] → (i : ℕ) → is_used os i ≡ false
+none_in : {X : Type 0} (os : List (Option X)) → values_in os ≡ [] → (i : ℕ) → is_used os i ≡ false
 none_in [] e i = refl
 none_in (None ∷ os) e zero = refl
 none_in (None ∷ os) e (suc i) = none_in os e i
@@ -76,7 +76,7 @@ none_in (Some x ∷ os) e i = cc
 
 -- ---- the pair of both
 -- what holds of every set with a position holds of one with none
-pub if_any : {X : Type 0} (n : ℕ) (has : ℕ → Bool) (os : List (Option X)) → ((k : ℕ) → k < n → has k ≡ false)
+if_any : {X : Type 0} (n : ℕ) (has : ℕ → Bool) (os : List (Option X)) → ((k : ℕ) → k < n → has k ≡ false)
     → AgreesIfAny n has os
 if_any n has os none = λ k l e. absurd (false≢true (sym (none k l) ∙ e))
 

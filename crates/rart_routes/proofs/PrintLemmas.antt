@@ -15,7 +15,7 @@ abbrev pub in_bits : Net × ArrayKey TARGET_SIZE → (ℕ × List ℕ) × ArrayK
 in_bits r = (net_bits r.0, r.1)
 
 -- routes after the first, each after a space
-abbrev pub further_routes : List (Net × ArrayKey TARGET_SIZE) → List ℕ
+abbrev further_routes : List (Net × ArrayKey TARGET_SIZE) → List ℕ
 further_routes routes = flat_map (λ r. codes " " ++ route_word r) routes
 
 -- of all routes some were printed, at least one, and these are left

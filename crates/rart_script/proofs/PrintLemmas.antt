@@ -14,7 +14,7 @@ abbrev pub further_pairs : List (List ℕ × ℕ) → List ℕ
 further_pairs [] = 10 ∷ []
 further_pairs (pair ∷ pairs) = 32 ∷ pair_word pair ++ further_pairs pairs
 
-pub first_pair : (pair : List ℕ × ℕ) (pairs : List (List ℕ × ℕ)) → pair_word pair ++ further_pairs pairs
+first_pair : (pair : List ℕ × ℕ) (pairs : List (List ℕ × ℕ)) → pair_word pair ++ further_pairs pairs
     ≡ join_with_byte 32 (map pair_word (pair ∷ pairs)) ++ 10 ∷ []
 first_pair pair [] = refl
 first_pair pair (next ∷ pairs) = ap (λ l. pair_word pair ++ 32 ∷ l) (first_pair next pairs)

@@ -18,7 +18,7 @@ use Rattle.rart_lines.specs.Lines.{lines_of}
 abbrev pub AreCommands : List ℕ → ℕ → Type 0
 AreCommands text n = (k : ℕ) → k < n → is_malformed (get_or (lines_of text) k []) ≡ false
 
-pub bad_line_none : (text : List ℕ) (n : ℕ) → n ≡ length (lines_of text) → AreCommands text n → bad_line text ≡ None
+bad_line_none : (text : List ℕ) (n : ℕ) → n ≡ length (lines_of text) → AreCommands text n → bad_line text ≡ None
 bad_line_none text n e before =
     let p : position_or_len is_malformed (lines_of text) ≡ n
     = position_or_len_is is_malformed (lines_of text) n [] (omega arith) before (λ l. absurd (omega arith)) in
@@ -26,7 +26,7 @@ bad_line_none text n e before =
     = grind (arith, nat_tests) in
     simp t
 
-pub bad_line_some : (text : List ℕ) (n : ℕ) → n < length (lines_of text) → AreCommands text n
+bad_line_some : (text : List ℕ) (n : ℕ) → n < length (lines_of text) → AreCommands text n
     → is_malformed (get_or (lines_of text) n []) ≡ true → bad_line text ≡ Some (n + 1)
 bad_line_some text n l before here =
     let p : position_or_len is_malformed (lines_of text) ≡ n

@@ -18,7 +18,7 @@ digits_value_append xs ys = simp (digits_value_is, map-append, number_after_appe
     (number_after_ge 10 _ (map digit_value ys) (omega arith))
 
 -- a number grows with each digit
-pub digits_value_grows : (xs : List ℕ) (i : ℕ) → digits_value 10 (take i xs) ≤ digits_value 10 xs
+digits_value_grows : (xs : List ℕ) (i : ℕ) → digits_value 10 (take i xs) ≤ digits_value 10 xs
 digits_value_grows xs i = let h = digits_value_append (take i xs) (drop i xs) in rw take-append-drop at h
 
 pub digits_step : (word : List ℕ) (i : ℕ) → i < length word → list_all is_ascii_digit (take i word) ≡ true

@@ -82,7 +82,7 @@ none-after p (k ∷ s) h = rw (not-after p k (or-left (begins p k) (begins_any p
 record-begins : (p : List ℕ) (s : List (List ℕ)) → begins_any p s ≡ false → record_at s p ≡ None
 record-begins p s h = rw (none-equal p s h, none-after p s h) refl
 
-pub covers-as : (s : List (List ℕ)) (f g : List ℕ → Bool) (rs : List (List ℕ × NodeRecord)) → ((p : List ℕ) → f p ≡ g p)
+covers-as : (s : List (List ℕ)) (f g : List ℕ → Bool) (rs : List (List ℕ × NodeRecord)) → ((p : List ℕ) → f p ≡ g p)
     → Covers s f rs → Covers s g rs
 covers-as s f g rs e c = record {
   ascending = c.ascending;

@@ -26,7 +26,7 @@ module _ {K V : Type 0} (bytes : K → List ℕ) where
   length-pairs [] = refl
   length-pairs (x ∷ items) = ap suc (length-pairs items)
 
-  pub below-two : ((es : List (List ℕ × V)) (i j : ℕ) → IsAscending es → i < j → j < length es
+  below-two : ((es : List (List ℕ × V)) (i j : ℕ) → IsAscending es → i < j → j < length es
       → IsLess (get_or (keys_of es) i []) (get_or (keys_of es) j [])) → (items : List (K × V)) (i j : ℕ) (c d : K × V)
       → IsAscending (pairs_in bytes items) → i < j → j < length items
       → IsLess (bytes (get_or items i c).0) (bytes (get_or items j d).0)

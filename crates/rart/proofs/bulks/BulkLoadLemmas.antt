@@ -16,15 +16,15 @@ use Rattle.rart.specs.declared.bulk.BulkError.TheVariants.{Memory, Full, Unsorte
 use Rattle.rart.specs.declared.tree.TheConstants.{MAX_PAIRS}
 
 -- what one more item does to the keys and values that stay of a list without fault
-abbrev pub Later : Type 0 → Type 0
+abbrev Later : Type 0 → Type 0
 Later V = (es : List (List ℕ × V)) (ks : List (List ℕ)) (vs : List V) (k : List ℕ) (v : V) → WasRead es ks vs
     → order_of_last ks k ≡ Less → WasRead (es ++ (k, v) ∷ []) (ks ++ k ∷ []) (vs ++ v ∷ [])
 
-abbrev pub Same : Type 0 → Type 0
+abbrev Same : Type 0 → Type 0
 Same V = (es : List (List ℕ × V)) (ks : List (List ℕ)) (vs ws : List V) (w : V) (k : List ℕ) (v : V) → WasRead es ks vs
     → order_of_last ks k ≡ Equal → vs ≡ ws ++ w ∷ [] → WasRead (es ++ (k, v) ∷ []) ks (ws ++ v ∷ [])
 
-abbrev pub Earlier : Type 0 → Type 0
+abbrev Earlier : Type 0 → Type 0
 Earlier V = (es : List (List ℕ × V)) (ks : List (List ℕ)) (vs : List V) (k : List ℕ) (v : V) → WasRead es ks vs
     → order_of_last ks k ≡ Greater → first_fault (es ++ (k, v) ∷ []) ≡ Some (length es)
 
@@ -50,7 +50,7 @@ module _ {V : Type 0} where
       → length vs ≡ length ks
   values-length es ks vs r = ap length r.values ∙ length-map (last_wins es) (λ e. e.1) ∙ read-length es ks vs r
 
-  pub memory-fails : (es : List (List ℕ × V)) (ks : List (List ℕ)) (vs : List V) (e : List ℕ × V)
+  memory-fails : (es : List (List ℕ × V)) (ks : List (List ℕ)) (vs : List V) (e : List ℕ × V)
       → WasRead (es ++ e ∷ []) ks vs → length ks ≤ MAX_PAIRS → FailsSorted (es ++ e ∷ []) Memory
   memory-fails es ks vs e r l = (not-empty es e, r.faultless, omega (arith, read-length (es ++ e ∷ []) ks vs r, l))
 

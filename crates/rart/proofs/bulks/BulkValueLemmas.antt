@@ -11,7 +11,7 @@ use Rattle.rart_trie.specs.shapes.KeyLists.{keys_in}
 -- calls that each take the first of a list
 module _ {F V : Type 0} (step : F → ℕ → V → F → Type 0) (items : F → List V) (one : (f : F) (i : ℕ) (v : V) (g : F)
     → step f i v g → items f ≡ v ∷ items g) where
-  pub takes-list : (i : ℕ) (f g : F) (vs : List V) → Takes step i f vs g → items f ≡ vs ++ items g
+  takes-list : (i : ℕ) (f g : F) (vs : List V) → Takes step i f vs g → items f ≡ vs ++ items g
   takes-list i f g [] t = ap items t
   takes-list i f g (v ∷ vs) t = one f i v t.0 t.1 ∙ ap (λ z. v ∷ z) (takes-list (suc i) t.0 g vs t.2)
 

@@ -11,7 +11,7 @@ use Rattle.rart.proofs.bulks.BulkTreeLemmas.{same-pairs}
 use Rattle.rart.proofs.bulks.CopyLemmas.{copied-more}
 
 -- a closing zero after both keys changes nothing of their order
-abbrev pub ClosingZeros : Type 0
+abbrev ClosingZeros : Type 0
 ClosingZeros = (xs ys : List ℕ) → slice_cmp nat_cmp (xs ++ 0 ∷ []) (ys ++ 0 ∷ []) ≡ slice_cmp nat_cmp xs ys
 
 above-texts : ClosingZeros → (k : List ℕ) (ts : List (List ℕ)) → AreAbove (terminated_key k)

@@ -107,7 +107,7 @@ module _ {V : Type 0} where
       rw (first, apart x.0 p.0 (bytes_eq x.0 p.0) refl (above-seam x.0 p xs ys h.0))
       (ap (λ z. x ∷ z) (through-earlier k p es xs ys rest h.1))
 
-  pub through-more : (k : List ℕ) (f : List ℕ × V) (es : List (List ℕ × V)) → (f.0 ≡ k → ⊥)
+  through-more : (k : List ℕ) (f : List ℕ × V) (es : List (List ℕ × V)) → (f.0 ≡ k → ⊥)
       → through k (f ∷ es) ≡ f ∷ through k es
   through-more k f es d = rw (other_keys f.0 k d) refl
 

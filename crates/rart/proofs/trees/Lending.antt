@@ -125,10 +125,10 @@ module _ (L : Lending) where
     Presented κ s t = AddsPresent (view old).pairs (bytes k) s t
 
     -- what the function says of it, and what the lender ends as
-    abbrev pub Answered : (κ : Lft) → V.Denot → (Answer κ).Denot → Type 0
+    abbrev Answered : (κ : Lft) → V.Denot → (Answer κ).Denot → Type 0
     Answered κ x t = TriesInsert (bytes k) x (view old).pairs t
 
-    abbrev pub Ends : (κ : Lft) → V.Denot → (Answer κ).Denot → Lender.Denot → Type 0
+    abbrev Ends : (κ : Lft) → V.Denot → (Answer κ).Denot → Lender.Denot → Type 0
     Ends κ x t n = lemmas.EndsAs (view old) (view n) (bytes k) x t (view n)
 
   view_unchanged : (old new : Lender.Denot) (s : Result (Unit {0}) (NotInserted V.Denot)) → OnErr s (new ≡ old)

@@ -81,7 +81,7 @@ module _ {V : Type 0} where
       = (h.1, h.2, may-refuse full k m e.error f most (none-stored w (lookup k m) h.2 s) h.3, h.0)
   ends-in full k r w m (Err Not_removed) n f most s h = (h.1, h.2, (refl, some-stored w (lookup k m) h.2 s, h.3), h.0)
 
-  pub touched-is : (r : SlotUpdate V) (w : Option V) → touched_in (outcome_of r w) ≡ is_touched r w
+  touched-is : (r : SlotUpdate V) (w : Option V) → touched_in (outcome_of r w) ≡ is_touched r w
   touched-is Keep None = refl
   touched-is Remove None = refl
   touched-is (Insert x) None = refl
@@ -90,7 +90,7 @@ module _ {V : Type 0} where
   touched-is (Insert x) (Some w) = refl
 
   -- a value left as it was shown changes nothing
-  pub kept : (k : List ℕ) (r : SlotUpdate V) (w : Option V) (m : List (List ℕ × V))
+  kept : (k : List ℕ) (r : SlotUpdate V) (w : Option V) (m : List (List ℕ × V))
       (res : Result (Outcome V) (UpdateError V)) (n : List (List ℕ × V))
       → ((v : V) → lookup k m ≡ Some v → put k v m ≡ m)
       → r ≡ Keep → slot_of w ≡ slot_of (lookup k m) → EndsIn k r w m res n → n ≡ m
@@ -102,18 +102,18 @@ module _ {V : Type 0} where
   kept k Keep w m (Err Not_removed) n law e s h = absurd (let z = h.0 in cc)
 
   -- a refused removal: what was left is at the key, and the old value is put back
-  pub value-left : (k : List ℕ) (w : Option V) (m n : List (List ℕ × V)) → ((v : V) → lookup k (put k v m) ≡ Some v)
+  value-left : (k : List ℕ) (w : Option V) (m n : List (List ℕ × V)) → ((v : V) → lookup k (put k v m) ≡ Some v)
       → w ≢ None → n ≡ map_left k w m → lookup k n ≢ None
   value-left k None m n law s e = absurd (s refl)
   value-left k (Some w) m n law s e = λ z. let at = law w in let same = ap (lookup k) e in cc
 
-  pub back-left : (k : List ℕ) (w : Option V) (v : V) (m n u : List (List ℕ × V))
+  back-left : (k : List ℕ) (w : Option V) (v : V) (m n u : List (List ℕ × V))
       → ((x y : V) → lookup k m ≡ Some x → put k x (put k y m) ≡ m) → w ≢ None → lookup k m ≡ Some v
       → n ≡ map_left k w m → u ≡ put k v n → u ≡ m
   back-left k None v m n u law s at e p = absurd (s refl)
   back-left k (Some w) v m n u law s at e p = p ∙ ap (put k v) e ∙ law v w at
 
-  pub slot-is : (u v : Option V) → slot_of u ≡ slot_of v → u ≡ v
+  slot-is : (u v : Option V) → slot_of u ≡ slot_of v → u ≡ v
   slot-is = slot-same
 
   slot-some : (u v : Option V) → slot_of u ≡ slot_of v → is_some u ≡ is_some v

@@ -63,7 +63,7 @@ module _ {M : Type 1} {𝓤 : Ura M} (𝓛 : Logic 𝓤) (R : RattleType) where
   Whole q α = wand 𝓤 (𝓛.A.lft (α ∷ []) (Share.right q)) (𝓛.A.lft (α ∷ []) full_share)
 
   -- what the holder of a `&mut` keeps while it is lent for a lifetime of its own
-  abbrev pub Lent : Lft → Share → MutBor R.Denot → ℕ → GName → Item 𝓤
+  abbrev Lent : Lft → Share → MutBor R.Denot → ℕ → GName → Item 𝓤
   Lent κ q r α δ = raw (Whole q α) ⊛ ‵
       (LentAgain R κ (α ∷ κ) (Share.left q) r.ghost_name r.ref_ptr.0 r.ref_ptr.1 δ r.now)
 

@@ -22,11 +22,6 @@ agree_at f g low size c t h l = let e : low + (c - low) ≡ c = omega (arith, h)
     ap f (sym e) ∙ eqb-true _ _ (holds_at (λ i. f (low + i) == g (low + i)) size (c - low) t (omega (arith, h, l)))
     ∙ ap g e
 
-pub agree_if : (p : ℕ → Bool) (f g : ℕ → ℕ) (c : ℕ)
-    → holds_below (λ i. if p i then f i == g i else true) 256 ≡ true → c < 256 → p c ≡ true → f c ≡ g c
-agree_if p f g c t l s = let h = holds_at (λ i. if p i then f i == g i else true) 256 c t l in
-    eqb-true _ _ (rw s at h)
-
 -- one more than there are lists of at most n bits
 unfoldable pub size : ℕ → ℕ
 size zero = 2
@@ -81,12 +76,12 @@ code_place c = place 7 (code_bits c)
 short : (c : ℕ) → IsCode (c ∷ []) → length (code_bits c) ≤ 7
 short c f = let s = code-short c f.1 in omega (arith, s)
 
-pub place_less : (c d : ℕ) → IsCode (c ∷ []) → IsCode (d ∷ []) → IsCodeLess c d → code_place c < code_place d
+place_less : (c d : ℕ) → IsCode (c ∷ []) → IsCode (d ∷ []) → IsCodeLess c d → code_place c < code_place d
 unfolding code_place
 place_less c d f g h = place-less 7 (code_bits c) (code_bits d) (after-bits (byte_bits c) (are-bits c))
     (after-bits (byte_bits d) (are-bits d)) (short c f) (short d g) h
 
-pub less_place : (c d : ℕ) → IsCode (c ∷ []) → IsCode (d ∷ []) → code_place c < code_place d → IsCodeLess c d
+less_place : (c d : ℕ) → IsCode (c ∷ []) → IsCode (d ∷ []) → code_place c < code_place d → IsCodeLess c d
 unfolding code_place
 less_place c d f g h = ⊎_elim
     (λ l. l)
@@ -95,7 +90,7 @@ less_place c d f g h = ⊎_elim
     (λ l. absurd (let more = place_less d c g f l in omega (arith, more, h))))
     (compare (code_bits c) (code_bits d))
 
-pub same_place : (c d : ℕ) → IsCode (c ∷ []) → IsCode (d ∷ []) → code_place c ≡ code_place d → c ≡ d
+same_place : (c d : ℕ) → IsCode (c ∷ []) → IsCode (d ∷ []) → code_place c ≡ code_place d → c ≡ d
 unfolding code_place
 same_place c d f g h = ⊎_elim
     (λ l. absurd (let more = place_less c d f g l in omega (arith, more, h)))

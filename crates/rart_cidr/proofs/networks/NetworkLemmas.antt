@@ -125,7 +125,7 @@ octets-alike (x ∷ o) (y ∷ p) f g e =
     let tails : o ≡ p = octets-alike o p (λ i. f (suc i)) (λ i. g (suc i)) first.1 in cc
 
 -- octets without bits after the first n are known by these
-pub networks-alike : (o p : List ℕ) (n : ℕ) → AreBytes o → AreBytes p → length o ≡ length p
+networks-alike : (o p : List ℕ) (n : ℕ) → AreBytes o → AreBytes p → length o ≡ length p
     → AreClearAfter (bits_of o) n → AreClearAfter (bits_of p) n → network o n ≡ network p n → o ≡ p
 networks-alike o p n f g l c d e =
     let same : length (bits_of o) - n ≡ length (bits_of p) - n = omega (arith, l, length-bits o, length-bits p) in
@@ -141,12 +141,12 @@ masked_octets-alone o n f g c = networks-alike (masked_octets o n) o n g f (mask
 same : (x : ℕ) → x == x ≡ true
 same x = grind (arith, nat_tests)
 
-pub begins-take : (n : ℕ) (l : List ℕ) → begins (take n l) l ≡ true
+begins-take : (n : ℕ) (l : List ℕ) → begins (take n l) l ≡ true
 begins-take zero l = refl
 begins-take (suc n) [] = refl
 begins-take (suc n) (x ∷ l) = rw (same x) (begins-take n l)
 
-pub begins-is : (p l : List ℕ) → begins p l ≡ true → p ≡ take (length p) l
+begins-is : (p l : List ℕ) → begins p l ≡ true → p ≡ take (length p) l
 begins-is [] l h = refl
 begins-is (x ∷ p) [] h = cc
 begins-is (x ∷ p) (y ∷ l) h = elim (x == y) as (λ b. (x == y) ≡ b → is_some (if b then strip_prefix p l else None)
@@ -176,11 +176,6 @@ before-all [] n (suc at) h = refl
 before-all (x ∷ o) n zero h = absurd (omega arith)
 before-all (x ∷ o) n (suc at) h = ap (λ z. masked_byte x n ∷ z) (before-all o (n - 8) at (omega arith))
 
-pub before-length : (o : List ℕ) (n at : ℕ) → length (cleared_before o n at) ≡ length o
-before-length o n zero = refl
-before-length [] n (suc at) = refl
-before-length (x ∷ o) n (suc at) = ap suc (before-length o (n - 8) at)
-
 pub network-length : (o : List ℕ) (n : ℕ) → n ≤ 8 * length o → length (network o n) ≡ n
 network-length o n h = omega (arith, length-take n (bits_of o), length-bits o)
 
@@ -192,7 +187,7 @@ network-padded o n w l h c =
     sym (take-append-drop n (bits_of o)) ∙ ap (λ z. network o n ++ z) (c ∙ ap (λ z. replicate z 0) after)
 
 -- the address a begins with the first n bits of o
-pub begins-network : (o a m : List ℕ) (n : ℕ) → AreBytes o → AreBytes m → length o ≡ length m
+begins-network : (o a m : List ℕ) (n : ℕ) → AreBytes o → AreBytes m → length o ≡ length m
     → AreClearAfter (bits_of o) n → AreClearAfter (bits_of m) n → n ≤ length (bits_of o)
     → network m n ≡ take n (bits_of a) → begins (network o n) (bits_of a) ≡ true → m ≡ o
 begins-network o a m n f g l c d h e b =
@@ -200,7 +195,7 @@ begins-network o a m n f g l c d h e b =
     networks-alike m o n g f (sym l) d c (e ∙ sym (begins-is (network o n) (bits_of a) b
     ∙ ap (λ z. take z (bits_of a)) long))
 
-pub network-begins : (o a m : List ℕ) (n : ℕ) → network m n ≡ take n (bits_of a) → m ≡ o
+network-begins : (o a m : List ℕ) (n : ℕ) → network m n ≡ take n (bits_of a) → m ≡ o
     → begins (network o n) (bits_of a) ≡ true
 network-begins o a m n e h = ap (λ z. begins z (bits_of a)) (sym (ap (λ z. network z n) h) ∙ e)
     ∙ begins-take n (bits_of a)

@@ -42,12 +42,6 @@ up_to_more b d x r n = ⊎_elim
     (λ h. below-trans d b (b ++ x ∷ r) h (longer b x r)))
     (compare b d)
 
-not-less_after : (n k l : List ℕ) → (IsLess n k → ⊥) → IsLess n l → (IsLess k l → ⊥) → ⊥
-not-less_after n k l f h g = ⊎_elim
-    (λ i. f i)
-    (⊎_elim (λ e. g (subst (λ z. IsLess z l) e h)) (λ i. g (below-trans k n l i h)))
-    (compare n k)
-
 -- what follows q in order also follows it without its end, or continues where q does
 pub begun_or_after : (p q w : List ℕ) → IsLess q (p ++ w) → ((r : List ℕ) × (q ≡ p ++ r)) ⊎ (IsLess q p)
 begun_or_after [] q w h = inl (q, refl)
@@ -104,7 +98,7 @@ strip_some (x ∷ p) (y ∷ k) r h = ⊎_elim
     (λ n. let t = rw (eq-no x y n) at h in cc)
     (equal_or_not x y)
 
-pub strip_none : (p r : List ℕ) → strip_prefix p (p ++ r) ≡ None → ⊥
+strip_none : (p r : List ℕ) → strip_prefix p (p ++ r) ≡ None → ⊥
 strip_none [] r h = cc
 strip_none (x ∷ p) r h = strip_none p r (rw (eq-yes x x refl) at h)
 

@@ -65,12 +65,6 @@ module _ {T : Type 0} where
   may-refuse S o k s Full e m = let at : stride_at o S ≡ s = ap stride_or_empty e in
       (ap (lookup k) at ∙ m.0, λ l. absurd (omega (arith, l, ap length at, m.1)))
 
-  -- a stride that isn't inserted
-  pub may-refuse-stride : (S : List (List ℕ × List (List ℕ × T))) (o k : List ℕ) (error : TreeError)
-      → lookup o S ≡ None → MayRefuseInsert S o error → MayRefuseTarget S o k error
-  may-refuse-stride S o k Memory e m = (ap (λ z. lookup k (stride_or_empty z)) e, insert_allocates-some S o m.2)
-  may-refuse-stride S o k Full e m = (ap (λ z. lookup k (stride_or_empty z)) e, λ l. m.1)
-
   -- a stride that isn't removed
   pub keeps-stride : (S R : List (List ℕ × List (List ℕ × T))) (o k : List ℕ) (error : TreeError)
       → lookup k (stride_at o S) ≢ None → MayRefuseRemove S o error → R ≡ S → TakesTarget o k S R (Err error)
@@ -212,7 +206,7 @@ module _ {T : Type 0} where
       m
 
   -- and of a refusal: the table was not full, so neither the strides nor a stride were
-  pub refused-route : (S : List (List ℕ × List (List ℕ × T))) (o : List ℕ) (n : ℕ) (q : List ℕ) (x c : ℕ)
+  refused-route : (S : List (List ℕ × List (List ℕ × T))) (o : List ℕ) (n : ℕ) (q : List ℕ) (x c : ℕ)
       (error : TreeError) → IsAscending S → AreStrides S → AreBytes o → n ≤ 8 * length o →
       q ≡ take (n / 8) o → x ≡ slice_index o (n / 8) → c ≡ code x (n % 8) → length (routes_of S) ≤ MAX_PAIRS
       → ((length (routes_of S) ≡ MAX_PAIRS) × (lookup (network o n) (routes_of S) ≡ None) → ⊥)

@@ -22,7 +22,7 @@ module _ {T : Type 0} where
         | Greater ↦ (a.0, put_within w k t es h a.1)
       ]
 
-  pub without_within : (w : ℕ) (k : List ℕ) (es : List (List ℕ × T)) → AreWithin w es → AreWithin w (without k es)
+  without_within : (w : ℕ) (k : List ℕ) (es : List (List ℕ × T)) → AreWithin w es → AreWithin w (without k es)
   without_within w k [] a = tt
   without_within w k (e ∷ es) a = elim (bytes_eq e.0 k)
       as (λ b. AreWithin w (if not b then e ∷ without k es else without k es)) [

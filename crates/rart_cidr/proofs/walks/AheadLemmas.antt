@@ -29,17 +29,9 @@ use Rattle.rart_cidr.proofs.routes.RouteLemmas.{IsFormed, lookup-routes, put-som
 use Rattle.rart_cidr.proofs.routes.RouteLemmas.{same_or_not}
 
 -- the first key ahead
-abbrev pub first_of : List (List ℕ) → Option (List ℕ)
+abbrev first_of : List (List ℕ) → Option (List ℕ)
 first_of [] = None
 first_of (k ∷ ks) = Some k
-
-pub not-true : (b : Bool) → not b ≡ true → b ≡ false
-not-true true h = absurd (cc)
-not-true false h = refl
-
-pub not-false : (b : Bool) → not b ≡ false → b ≡ true
-not-false true h = refl
-not-false false h = absurd (cc)
 
 and-true : (b : Bool) → (b && true) ≡ true → b ≡ true
 and-true true h = refl
@@ -141,7 +133,7 @@ module _ {T : Type 0} where
       let e = sym h ∙ value ∙ nothing in cc
 
   -- the next route is before the first stride ahead
-  pub next_route : (S : List (List ℕ × List (List ℕ × T))) (ks : List (List ℕ)) (k : List ℕ) (c at d : ℕ) (t : T)
+  next_route : (S : List (List ℕ × List (List ℕ × T))) (ks : List (List ℕ)) (k : List ℕ) (c at d : ℕ) (t : T)
       → IsAscending S → AreStrides S → AreBytes k → IsCode (c ∷ []) → AreAhead (net_at k c) S ks
       → IsNextBefore S k (net_at k c) (first_of ks) (Some (at, d, t))
       → pairs_from false (net_at k c) (routes_of S)
@@ -167,13 +159,13 @@ module _ {T : Type 0} where
       (compare q p)))
       (compare n p))
 
-  pub ahead_later : (S : List (List ℕ × List (List ℕ × T))) (ks : List (List ℕ)) (q n : List ℕ) → AreAhead q S ks
+  ahead_later : (S : List (List ℕ × List (List ℕ × T))) (ks : List (List ℕ)) (q n : List ℕ) → AreAhead q S ks
       → IsLess q n → IsBefore n (first_of ks) → AreAhead n S ks
   ahead_later S [] q n ahead l b = λ p s m. ahead p s (below-trans q n (bits_of p) l m)
   ahead_later S (k ∷ ks) q n ahead l b = (b, λ p s m. ahead.1 p s (below-trans q n (bits_of p) l m), ahead.2)
 
   -- none is, and the walk enters the stride
-  pub entered : (S : List (List ℕ × List (List ℕ × T))) (ks : List (List ℕ)) (k : List ℕ) (c : ℕ) (m : List ℕ)
+  entered : (S : List (List ℕ × List (List ℕ × T))) (ks : List (List ℕ)) (k : List ℕ) (c : ℕ) (m : List ℕ)
       → IsAscending S → AreStrides S → AreBytes k → IsCode (c ∷ []) → AreAhead (net_at k c) S (m ∷ ks)
       → IsNextBefore S k (net_at k c) (Some m) None
       → (pairs_from true (net_at m 1) (routes_of S) ≡ pairs_from false (net_at k c) (routes_of S))
@@ -199,7 +191,7 @@ module _ {T : Type 0} where
       )
 
   -- none is, and no stride is ahead
-  pub ended : (S : List (List ℕ × List (List ℕ × T))) (k : List ℕ) (c : ℕ) → IsAscending S → AreStrides S → AreBytes k
+  ended : (S : List (List ℕ × List (List ℕ × T))) (k : List ℕ) (c : ℕ) → IsAscending S → AreStrides S → AreBytes k
       → IsCode (c ∷ []) → AreAhead (net_at k c) S [] → IsNextBefore S k (net_at k c) None None
       → pairs_from false (net_at k c) (routes_of S) ≡ []
   ended S k c a b f g ahead none = let q = net_at k c in
@@ -256,7 +248,7 @@ module _ {T : Type 0} where
       ] refl
 
   -- the keys within a start are those ahead
-  pub started_ahead : (S : List (List ℕ × List (List ℕ × T))) (q : List ℕ) (start : Bound (List ℕ)) → IsAscending S
+  started_ahead : (S : List (List ℕ × List (List ℕ × T))) (q : List ℕ) (start : Bound (List ℕ)) → IsAscending S
       → AreStrides S → IsStart q start → AreAhead q S (keys_of (between start Unbounded S))
   started_ahead S q start a b h = let f = λ (p : List ℕ). is_from start p && true in
       in-order S (filter (λ e. f e.0) S) q b (ascending_filter f S a)

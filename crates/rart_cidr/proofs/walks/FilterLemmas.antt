@@ -167,10 +167,6 @@ module _ {T : Type 0} where
   all-outside q k [] l b a = refl
   all-outside q k (e ∷ es) l b a = rw (outside-after q k e.0 l b a.0) (all-outside q k es l b a.1)
 
-  from-above : (q : List ℕ) (es : List (List ℕ × T)) → AreAbove q es → pairs_from true q es ≡ es
-  from-above q [] a = refl
-  from-above q (e ∷ es) a = rw (from_after true q e.0 a.0) (ap (λ z. e ∷ z) (from-above q es a.1))
-
   -- from q on, the pairs inside q are those up to the first one outside
   pub up_to_outside_is : (q : List ℕ) (v : List (List ℕ × T)) → IsAscending v
       → up_to_outside q (pairs_from true q v) ≡ below q v

@@ -44,7 +44,7 @@ way-begins : (o : List ℕ) (k at : ℕ) → k ≤ at → begins (take k o) (tak
 way-begins o k at h = subst (λ z. begins z (take at o) ≡ true) (taken-network k at o h) (begins-take k (take at o))
 
 -- all bits of some octets
-pub network-all : (o : List ℕ) → network o (8 * length o) ≡ bits_of o
+network-all : (o : List ℕ) → network o (8 * length o) ≡ bits_of o
 network-all o = ap (λ n. take n (bits_of o)) (sym (length-bits o)) ∙ take-length (bits_of o)
 
 pub less_or_not : (m n : ℕ) → (m < n) ⊎ (n ≤ m)
@@ -80,7 +80,7 @@ module _ {T : Type 0} where
       ∙ ap (λ z. in_stride (stride_at (take at o) S) z (n % 8)) (sym i) ∙
       ap (λ z. in_stride (stride_or_empty z) x (n % 8)) (sym (h ∙ ap (λ z. lookup z S) m))
 
-  pub no_stride : (S : List (List ℕ × List (List ℕ × T))) (o q : List ℕ) (w at : ℕ) → IsAscending S → AreStrides S
+  no_stride : (S : List (List ℕ × List (List ℕ × T))) (o q : List ℕ) (w at : ℕ) → IsAscending S → AreStrides S
       → AreBytes o → w ≤ 8 * length o → q ≡ take at o → None ≡ lookup q S → HasNoneAfter (routes_of S) o w at
   no_stride S o q w at a b f g m h = λ n e l.
       seen-stride S o q at n (slice_index o at) None a b f e (omega (arith, l, g)) m h refl
@@ -225,7 +225,7 @@ module _ {T : Type 0} where
       (less_or_not n m)
 
   -- look-ups that find nothing are passed over
-  pub tried-down : (v : List (List ℕ × T)) (o : List ℕ) (w n m : ℕ) → n ≤ m → m ≤ w → HasNoneFrom v o w (n + 1)
+  tried-down : (v : List (List ℕ × T)) (o : List ℕ) (w n m : ℕ) → n ≤ m → m ≤ w → HasNoneFrom v o w (n + 1)
       → first_by_lengths (network o w) m v ≡ first_by_lengths (network o w) n v
   tried-down v o w n zero h i none = let e : n ≡ 0 = omega arith in rw e refl
   tried-down v o w n (suc m) h i none = ⊎_elim

@@ -81,7 +81,7 @@ module _ {T : Type 0} where
       ]
 
   -- no stored network of low bits or more begins q
-  pub no_matches : (low : ℕ) (q : List ℕ) (v : List (List ℕ × T))
+  no_matches : (low : ℕ) (q : List ℕ) (v : List (List ℕ × T))
       → ((n : ℕ) → low ≤ n → n ≤ length q → lookup (take n q) v ≡ None) → matches_from low q v ≡ []
   no_matches low q [] none = refl
   no_matches low q (e ∷ es) none =
@@ -96,7 +96,7 @@ module _ {T : Type 0} where
       ] refl
 
   -- the shortest stored network of low bits or more that begins q has n bits
-  pub next_is : (low n : ℕ) (q : List ℕ) (t : T) (v : List (List ℕ × T)) → IsAscending v → low ≤ n → n ≤ length q
+  next_is : (low n : ℕ) (q : List ℕ) (t : T) (v : List (List ℕ × T)) → IsAscending v → low ≤ n → n ≤ length q
       → lookup (take n q) v ≡ Some t → ((m : ℕ) → low ≤ m → m < n → lookup (take m q) v ≡ None)
       → matches_from low q v ≡ (take n q, t) ∷ matches_from (n + 1) q v
   next_is low n q t [] a g l h none = absurd (cc)
@@ -162,14 +162,6 @@ module _ {T : Type 0} where
       no_matches low (network o w) v
       (λ m i j. let l : m ≤ w = omega (arith, j, wide) in
       first-bits v o w m l ∙ none m i (omega (arith, l, g)) l)
-
-  -- one octet more without a network
-  pub none_before : (v : List (List ℕ × T)) (o : List ℕ) (w low from : ℕ) → IsFirstAfter v o w from None
-      → HasNoneBetween v o w low from → HasNoneBetween v o w low ((from / 8 + 1) * 8)
-  none_before v o w low from h i = λ n g l m. ⊎_elim
-      (λ k. i n g k m)
-      (λ k. h n k (omega (arith, k, l)) m)
-      (less_or_not n from)
 
   pub none_after : (S : List (List ℕ × List (List ℕ × T))) (o q : List ℕ) (w low : ℕ) → IsAscending S → AreStrides S
       → AreBytes o → w ≤ 8 * length o → q ≡ take (low / 8) o → None ≡ lookup q S

@@ -45,10 +45,6 @@ pub before_trans : (n m : List ℕ) (ahead : Option (List ℕ)) → IsLess n m �
 before_trans n m None l h = tt
 before_trans n m (Some k) l h = below-trans n m (bits_of k) l h
 
-before-start : (a b : List ℕ) (ahead : Option (List ℕ)) → IsBefore (a ++ b) ahead → IsBefore a ahead
-before-start a b None h = tt
-before-start a b (Some k) h = before_more a b (bits_of k) h
-
 -- the code from which the stride at all octets, or at fewer, is searched
 pub from_all : (o : List ℕ) (c : ℕ) → IsCode (c ∷ []) → IsCodeFrom o c (length o) c
 from_all o c f = (
@@ -182,10 +178,6 @@ module _ {T : Type 0} where
         (without_prefix (bits_of (take at o)) (code_bits d) (code_bits p.0) m),
   )
 
-  pub next_without_stride : (S : List (List ℕ × List (List ℕ × T))) (o q : List ℕ) (at : ℕ) (ahead : Option (List ℕ))
-      → stride_at (take at o) S ≡ [] → IsNextAt S o q at ahead None
-  next_without_stride S o q at ahead e = λ d i l m. ap (lookup (d ∷ [])) e
-
   pub found_before : (S : List (List ℕ × List (List ℕ × T))) (o : List ℕ) (c at d : ℕ) (t : T)
       (ahead : Option (List ℕ)) → at ≤ length o → HasNoneDownTo S o (net_at o c) ahead (suc at)
       → IsNextAt S o (net_at o c) at ahead (Some (d, t)) → IsNextBefore S o (net_at o c) ahead (Some (at, d, t))
@@ -207,10 +199,6 @@ module _ {T : Type 0} where
         (before_trans (net_at (take other o) e) (net_at (take at o) d) ahead m n.2)))
         (order other at),
   )
-
-  pub none_above : (S : List (List ℕ × List (List ℕ × T))) (o q : List ℕ) (ahead : Option (List ℕ))
-      → HasNoneDownTo S o q ahead (suc (length o))
-  none_above S o q ahead = λ at d l h f m n. absurd (omega (arith, l, h))
 
   pub none_at_one_more : (S : List (List ℕ × List (List ℕ × T))) (o q : List ℕ) (at : ℕ) (ahead : Option (List ℕ))
       → HasNoneDownTo S o q ahead (suc at) → IsNextAt S o q at ahead None → HasNoneDownTo S o q ahead at

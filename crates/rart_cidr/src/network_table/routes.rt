@@ -10,7 +10,7 @@ use crate::table::walk::Walk;
 use rart::{KeyTrait, TreeError};
 use std::marker::Model;
 
-// What is left of a walk. An `Option` of a walk isn't shown to be droppable by a caller's proof.
+// The rest of a walk. An `Option` of a walk isn't shown to be droppable by a caller's proof.
 #[derive(Drop)]
 enum Rest<'a, N: Network, T> {
     Active(Walk<'a, N::Key, T>),

@@ -57,7 +57,7 @@ module _ {V W : Type 0} where
   swapped-ascends [] h = tt
   swapped-ascends (e ∷ es) h = (above-swapped e.0 es h.0, swapped-ascends es h.1)
 
-  pub other_way : Option (V × W) → Option (W × V)
+  other_way : Option (V × W) → Option (W × V)
   other_way None = None
   other_way (Some e) = Some (e.1, e.0)
 

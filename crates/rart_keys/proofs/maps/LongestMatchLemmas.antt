@@ -30,7 +30,7 @@ module _ {V : Type 0} where
       → last_or o (matches q (e ∷ es)) ≡ last_or (Some e) (matches q es)
   first-begins o q e es f = rw f refl
 
-  pub first-stored : (e : List ℕ × V) (es : List (List ℕ × V)) → lookup e.0 (e ∷ es) ≢ None
+  first-stored : (e : List ℕ × V) (es : List (List ℕ × V)) → lookup e.0 (e ∷ es) ≢ None
   first-stored e es n = let f = lookup-first e.0 e.1 es in cc
 
   pub stored-after : (k : List ℕ) (e : List ℕ × V) (es : List (List ℕ × V)) → lookup k es ≢ None

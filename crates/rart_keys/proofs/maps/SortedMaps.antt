@@ -44,7 +44,7 @@ module _ {V : Type 0} where
       let f = h y.0 in cc)) (compare x.0 y.0)
 
   -- put
-  pub above-put : (l k : List ℕ) (v : V) (es : List (List ℕ × V)) → IsLess l k → AreAbove l es → AreAbove l (put k v es)
+  above-put : (l k : List ℕ) (v : V) (es : List (List ℕ × V)) → IsLess l k → AreAbove l es → AreAbove l (put k v es)
   above-put l k v [] b h = (b, tt)
   above-put l k v (e ∷ es) b h = ⊎_elim
       (λ s. rw s (b, h))
@@ -88,7 +88,7 @@ module _ {V : Type 0} where
       omega (arith, length-put k v es h.1, ap length more, ap count_of below))) (compare k e.0)
 
   -- without
-  pub above-without : (l k : List ℕ) (es : List (List ℕ × V)) → AreAbove l es → AreAbove l (without k es)
+  above-without : (l k : List ℕ) (es : List (List ℕ × V)) → AreAbove l es → AreAbove l (without k es)
   above-without l k [] h = tt
   above-without l k (e ∷ es) h = elim (bytes_eq e.0 k)
       as (λ b. AreAbove l (if not b then e ∷ without k es else without k es)) [

@@ -112,18 +112,6 @@ slice_cmp-signed w k x y f g e =
     let q : sign_flipped w y < 256 ^ k = rw (← e) (sign_flipped-lt w y g) in
     slice_cmp-unsigned k _ _ p q ∙ nat_cmp-sign_flipped w x y f g
 
--- big-endian bytes are the number's digits in base 256
-number_from_digits_after-bytes_high_first : (k a n : ℕ) → number_from_digits_after 256 a (bytes_high_first k n)
-    ≡ a * 256 ^ k + n % 256 ^ k
-number_from_digits_after-bytes_high_first zero a n = omega arith
-number_from_digits_after-bytes_high_first (suc k) a n =
-    let hn = mod-split n {m = 256} {c = 256 ^ k} (omega arith) (pow_above_zero k) in
-    let d = n / 256 ^ k % 256 in
-    let spread : (a * 256 + d) * 256 ^ k ≡ a * 256 * 256 ^ k + d * 256 ^ k = add-mul (a * 256) d (256 ^ k) in
-    let group : a * 256 * 256 ^ k ≡ a * (256 * 256 ^ k) = mul_assoc a 256 (256 ^ k) in
-    rw (number_from_digits_after-bytes_high_first k (a * 256 + byte_at k n) n, byte_at-pow k n, pow-succ' 256 k, hn)
-    (omega (arith, spread, group))
-
 -- up to seven digits leave space for one more in eight
 pub seven_digits : (i n : ℕ) → i < 8 → n < 256 ^ i → n < 256 ^ 7
 seven_digits i n h p = let m : 256 ^ i ≤ 256 ^ 7

@@ -22,13 +22,6 @@ pub no_mark-length : (bs : List ℕ) → has_mark bs ≡ false → marked_length
 no_mark-length [] e = refl
 no_mark-length (b ∷ bs) e = rw (no_mark-tail b bs e) refl
 
--- a zero before bytes without a mark
-pub no_mark-before : (bs : List ℕ) (n : ℕ) → n < length bs → slice_index bs n ≡ 0 → has_mark (drop (suc n) bs) ≡ false
-    → has_mark (drop n bs) ≡ false
-no_mark-before [] n h z e = absurd (omega arith)
-no_mark-before (b ∷ bs) zero h z e = rw (z) e
-no_mark-before (b ∷ bs) (suc n) h z e = no_mark-before bs n (omega arith) z e
-
 mark-at : (bs : List ℕ) (n : ℕ) → n < length bs → slice_index bs n ≢ 0 → has_mark bs ≡ true
 mark-at [] n h m = absurd (omega arith)
 mark-at (b ∷ bs) zero h m = rw (eq-no b 0 m) refl

@@ -23,7 +23,7 @@ bytes_of_number (x ∷ xs) (y ∷ ys) p q l e =
     ap₂ ◌∷◌ (omega arith) (bytes_of_number xs ys (λ i. p (suc i)) (λ i. q (suc i)) (omega arith) (omega arith))
 
 -- the words of w bytes at i are equal where their numbers are
-pub piece_of_number : (w i : ℕ) (xs ys : List ℕ) → AreBytes xs → AreBytes ys → i + w ≤ length xs → i + w ≤ length ys
+piece_of_number : (w i : ℕ) (xs ys : List ℕ) → AreBytes xs → AreBytes ys → i + w ≤ length xs → i + w ≤ length ys
     → little_endian_number (take w (drop i xs)) ≡ little_endian_number (take w (drop i ys))
     → take w (drop i xs) ≡ take w (drop i ys)
 piece_of_number w i xs ys p q l k e =
@@ -33,12 +33,12 @@ piece_of_number w i xs ys p q l k e =
     ∙ sym (length-take-le w (drop i ys) (omega (arith, length-drop i ys)))) e
 
 -- an equal beginning is extended by an equal word
-pub one_piece_more : (w i : ℕ) (xs ys : List ℕ) → take i xs ≡ take i ys → take w (drop i xs) ≡ take w (drop i ys)
+one_piece_more : (w i : ℕ) (xs ys : List ℕ) → take i xs ≡ take i ys → take w (drop i xs) ≡ take w (drop i ys)
     → take (i + w) xs ≡ take (i + w) ys
 one_piece_more w i xs ys e f = take-add i w xs ∙ ap₂ ◌++◌ e f ∙ sym (take-add i w ys)
 
 -- fewer bytes are equal too
-pub fewer : (m i : ℕ) (xs ys : List ℕ) → m ≤ i → take i xs ≡ take i ys → take m xs ≡ take m ys
+fewer : (m i : ℕ) (xs ys : List ℕ) → m ≤ i → take i xs ≡ take i ys → take m xs ≡ take m ys
 fewer zero i xs ys h e = refl
 fewer (suc m) zero xs ys h e = absurd (omega arith)
 fewer (suc m) (suc i) [] [] h e = refl
@@ -47,11 +47,11 @@ fewer (suc m) (suc i) (x ∷ xs) [] h e = absurd (cc)
 fewer (suc m) (suc i) (x ∷ xs) (y ∷ ys) h e = ap₂ ◌∷◌ (cc) (fewer m i xs ys (omega arith) (cc))
 
 -- and each word within them
-pub word : (w i n : ℕ) (xs ys : List ℕ) → i + w ≤ n → take n xs ≡ take n ys → take w (drop i xs) ≡ take w (drop i ys)
+word : (w i n : ℕ) (xs ys : List ℕ) → i + w ≤ n → take n xs ≡ take n ys → take w (drop i xs) ≡ take w (drop i ys)
 word w i n xs ys h e = sym (drop-take i w xs) ∙ ap (drop i) (fewer (i + w) n xs ys h e) ∙ drop-take i w ys
 
 -- a whole list is its own beginning
-pub whole : (p k : List ℕ) (n : ℕ) → n ≡ length p → take n p ≡ take n k → take (length p) k ≡ p
+whole : (p k : List ℕ) (n : ℕ) → n ≡ length p → take n p ≡ take n k → take (length p) k ≡ p
 whole p k n e h = ap (λ m. take m k) (sym e) ∙ sym h ∙ ap (λ m. take m p) e ∙ take-length p
 
 -- by the number of bytes that two strings share

@@ -146,7 +146,7 @@ module _ {V W : Type 0} where
         = omega (arith, h.visits, s.visited);
   }
 
-  pub place-apart : (t : Trie V) (u : Trie W) (p l r k q : List ℕ) (x y : ℕ) (a : Trie V) (b : Trie W) (i j : ℕ)
+  place-apart : (t : Trie V) (u : Trie W) (p l r k q : List ℕ) (x y : ℕ) (a : Trie V) (b : Trie W) (i j : ℕ)
       → l ≡ x ∷ k → r ≡ y ∷ q → (x ≡ y → ⊥) → Place t u p a l b r i j → IsEnd t u i j
   place-apart t u p l r k q x y a b i j e f d h = ended t u p l r a b i j h (rw (e, f) (turn-apart x y k q a b d))
 

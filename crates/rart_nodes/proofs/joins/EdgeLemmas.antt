@@ -14,7 +14,7 @@ use Rattle.rart_trie.proofs.tries.LongerPrefix.{longer}
 use Rattle.rart_nodes.proofs.joins.IntersectLemmas.{lookup-step, lookup-step_nil}
 use Rattle.rart_nodes.proofs.joins.Reach.{reaches, reaches_child}
 
-abbrev pub marks_edges : Pairing (List (List ℕ × Unit {0}))
+abbrev marks_edges : Pairing (List (List ℕ × Unit {0}))
 marks_edges = record {
   apart = [];
   shared = λ x es. with_prefix (x ∷ []) es;
@@ -55,12 +55,12 @@ same_above d f g [] h = refl
 same_above d f g (b ∷ x) h = rw (h []) (same_above (g []) (λ p. f (b ∷ p)) (λ p. g (b ∷ p)) x (λ p. h (b ∷ p)))
 
 -- reaches
-pub reach-longer : {V : Type 0} (x y : ℕ) (k : List ℕ) (t : Trie V)
+reach-longer : {V : Type 0} (x y : ℕ) (k : List ℕ) (t : Trie V)
     → reaches (y ∷ k) (longer x t) ≡ (if x == y then reaches k t else false)
 reach-longer x y k (node p v n cs) = ⊎_elim (λ e. rw (eq-yes x y e, eq-yes y x (sym e)) refl)
     (λ d. rw (eq-no x y d, eq-no y x (λ e. d (sym e))) refl) (equal_or_not x y)
 
-pub reach-nil : {V : Type 0} (t : Trie V) → reaches [] t ≡ true
+reach-nil : {V : Type 0} (t : Trie V) → reaches [] t ≡ true
 reach-nil (node [] v n cs) = refl
 reach-nil (node (x ∷ p) v n cs) = refl
 
@@ -91,7 +91,7 @@ mark-nil b (node [] v n cs) f = absurd f
 mark-nil b (node (x ∷ p) v n cs) f = refl
 
 -- G, or true at the root
-abbrev pub from_root : (List ℕ → Bool) → List ℕ → Bool
+abbrev from_root : (List ℕ → Bool) → List ℕ → Bool
 from_root g [] = true
 from_root g (c ∷ p) = g (c ∷ p)
 

@@ -191,7 +191,7 @@ module _ {V : Type 0} (eq : V → V → Bool) where
   own-split (Some v) (Some u) xs ys f g = refl
 
   mutual
-    pub same-pairs : (t u : Trie V) → IsCanonical t → IsCanonical u → same_pairs eq (pairs_of t) (pairs_of u)
+    same-pairs : (t u : Trie V) → IsCanonical t → IsCanonical u → same_pairs eq (pairs_of t) (pairs_of u)
         ≡ same_tries eq t u
     same-pairs (node p v n cs) (node q u m ds) w x = ⊎_elim
         (λ e. let s : p ≡ q = same_text p q (sym e) in

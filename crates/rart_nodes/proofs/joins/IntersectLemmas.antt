@@ -136,7 +136,7 @@ module _ {V W : Type 0} where
         ]
 
   mutual
-    pub lookup-intersect_nodes : (k : List ℕ) (t : Trie V) (u : Trie W) → IsCanonical u
+    lookup-intersect_nodes : (k : List ℕ) (t : Trie V) (u : Trie W) → IsCanonical u
         → lookup k (intersect_nodes t u) ≡ both (trie_lookup k t) (trie_lookup k u)
     lookup-intersect_nodes k (node p v n cs) u z
         = meets-in k p v n cs (λ b z. intersect_child b z cs) u (λ b k u z. lookup-intersect_kid b k cs u z) z
@@ -220,7 +220,7 @@ module _ {V W : Type 0} where
         ]
 
   mutual
-    pub intersect_nodes-ascends : (t : Trie V) (u : Trie W) → IsCanonical u → IsAscending (intersect_nodes t u)
+    intersect_nodes-ascends : (t : Trie V) (u : Trie W) → IsCanonical u → IsAscending (intersect_nodes t u)
     intersect_nodes-ascends (node p v n cs) u z
         = in-ascends p v cs (λ b z. intersect_child b z cs) u (λ b k u z. lookup-intersect_kid b k cs u z)
         (λ b u z. kid-ascends b cs u z) z

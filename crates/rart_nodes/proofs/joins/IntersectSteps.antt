@@ -43,7 +43,7 @@ module _ {V W : Type 0} where
   met_visits (Some t) None = 0
   met_visits (Some t) (Some u) = 1 + more_visits t u
 
-  pub child-of : (b low : ℕ) (u : Trie W) (cs : Children V) → AreCanonical low cs
+  child-of : (b low : ℕ) (u : Trie W) (cs : Children V) → AreCanonical low cs
       → (intersect_child b u cs ≡ met (child_of b cs) (Some u))
       × (visits_child b u cs ≡ met_visits (child_of b cs) (Some u))
   child-of b low u no_children w = (refl, refl)
@@ -52,7 +52,7 @@ module _ {V W : Type 0} where
       (⊎_elim (λ h. rw (is_equal b c h, eq-yes c b (sym h)) (refl, refl))
       (λ h. rw (is_greater b c h, eq-no c b (λ q. omega arith)) (child-of b (suc c) u cs w.3))) (order b c)
 
-  pub down-of : (b low : ℕ) (l : List ℕ) (v : Option V) (n : ℕ) (cs : Children V) (ds : Children W)
+  down-of : (b low : ℕ) (l : List ℕ) (v : Option V) (n : ℕ) (cs : Children V) (ds : Children W)
       → AreCanonical low ds
       → (intersect_down b l v (λ b z. intersect_child b z cs) ds ≡ met (Some (node l v n cs)) (child_of b ds))
       × (visits_down b l (λ b z. visits_child b z cs) ds ≡ met_visits (Some (node l v n cs)) (child_of b ds))

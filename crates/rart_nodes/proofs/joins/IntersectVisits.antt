@@ -160,7 +160,7 @@ module _ {V W : Type 0} where
         ]
 
   mutual
-    pub few_more : (t : Trie V) (u : Trie W) → IsCanonical u → more_visits t u + 2 ≤ node_count t + node_count u
+    few_more : (t : Trie V) (u : Trie W) → IsCanonical u → more_visits t u + 2 ≤ node_count t + node_count u
     few_more (node p v n cs) u z = few-in p (λ b z. visits_child b z cs) cs u (λ b u z. few-kid b cs u z) z
 
     few-kid : (b : ℕ) (cs : Children V) (u : Trie W) → IsCanonical u

@@ -24,7 +24,7 @@ module _ {V W : Type 0} where
   joint-some (e ∷ l) [] h k = absurd (omega arith)
   joint-some (e ∷ l) (d ∷ m) h k = refl
 
-  pub met_visits-joint : (t : Option (Trie V)) (u : Option (Trie W)) → IsCanonicalTree t → IsCanonicalTree u
+  met_visits-joint : (t : Option (Trie V)) (u : Option (Trie W)) → IsCanonicalTree t → IsCanonicalTree u
       → met_visits t u ≡ joint_visits (keys_of (tree_pairs t)) (keys_of (tree_pairs u))
   met_visits-joint None u w z = refl
   met_visits-joint (Some t) None w z = sym (joint-none (pairs_of t))

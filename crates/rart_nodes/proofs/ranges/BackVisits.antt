@@ -14,7 +14,7 @@ use Rattle.rart_nodes.proofs.walks.WalkVisits.{has-child}
 
 module _ {V : Type 0} where
   -- the deepest level is at the end of the path, and its node has a value or children
-  abbrev pub IsFresh : SegmentList → List (BackLevel V) → Type 0
+  abbrev IsFresh : SegmentList → List (BackLevel V) → Type 0
   IsFresh k [] = ⊥
   IsFresh k (l ∷ ls) = (l.0.1 ≡ length k) × (l.0.0 ≡ no_children → option_copied l.1 ≡ None → ⊥)
 

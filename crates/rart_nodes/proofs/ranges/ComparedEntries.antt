@@ -57,7 +57,7 @@ filter-map f p q (x ∷ xs) h = rw (h x, filter-map f p q xs h)
     ≡ map f (if z then x ∷ filter p xs else filter p xs)) [ true ↦ refl | false ↦ refl ])
 
 -- a list, or nothing
-abbrev pub list_if : {A : Type 0} → Bool → List A → List A
+abbrev list_if : {A : Type 0} → Bool → List A → List A
 list_if true xs = xs
 list_if false xs = []
 
@@ -78,7 +78,7 @@ is_before h o = match_ordering o true h false
 
 module _ {V : Type 0} where
   -- the entries whose keys compare with s so that a holds
-  abbrev pub entries_by : (Ordering → Bool) → List ℕ → List (SegmentList × V) → List (SegmentList × V)
+  abbrev entries_by : (Ordering → Bool) → List ℕ → List (SegmentList × V) → List (SegmentList × V)
   entries_by a s es = filter (λ e. a (slice_cmp nat_cmp (joined_bytes e.0) s)) es
 
   -- each key compares with s as o
@@ -131,7 +131,7 @@ module _ {V : Type 0} where
   )
 
   -- children
-  pub above-all : (b low : ℕ) (cs : Children V) → b < low → AreCanonical low cs → children_above b cs ≡ cs
+  above-all : (b low : ℕ) (cs : Children V) → b < low → AreCanonical low cs → children_above b cs ≡ cs
   above-all b low no_children l w = refl
   above-all b low (child c t cs) l w = rw (lt-ltb b c (omega (arith, w.0)))
       (ap (λ z. child c t z) (above-all b (suc c) cs (omega (arith, w.0)) w.3))

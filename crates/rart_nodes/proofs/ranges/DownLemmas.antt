@@ -65,7 +65,7 @@ module _ {V : Type 0} where
         | false ↦ (r.0, rw l r.1)
       ]
 
-  pub down_to-bound : (a b : Bound (List ℕ)) (es : List (List ℕ × V)) → IsAscending es
+  down_to-bound : (a b : Bound (List ℕ)) (es : List (List ℕ × V)) → IsAscending es
       → down_to a (reverse (to_bound b es)) ≡ reverse (between a b es)
   down_to-bound a b [] w = refl
   down_to-bound a b (e ∷ es) w = elim (is_from a e.0) as (λ y. is_from a e.0 ≡ y

@@ -112,7 +112,7 @@ module _ {V : Type 0} where
       (start-at g t k0 v h)
 
   -- what is known of the last child of the deepest level
-  pub last-child : (longest places : ℕ) (k : SegmentList) (d : ℕ) (t : Trie V) (b : ℕ) (cs : Children V)
+  last-child : (longest places : ℕ) (k : SegmentList) (d : ℕ) (t : Trie V) (b : ℕ) (cs : Children V)
       (ls : List (Level V)) → IsWalk longest places k ((with_last cs b t, d) ∷ ls) → Child longest places k d t cs ls
   last-child longest places k d t b cs ls p =
       let c = last-canonical 0 b t cs p.stations.1 in

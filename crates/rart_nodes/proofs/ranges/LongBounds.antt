@@ -24,7 +24,7 @@ short-or-long : (m n : ℕ) → (n ≤ m) ⊎ (m < n)
 short-or-long m n = ⊎_elim (λ h. inr h) (⊎_elim (λ h. inl (omega (arith, h))) (λ h. inl (omega (arith, h)))) (order m n)
 
 -- an end
-pub to-short : (h : Bool) (m : ℕ) (s k : List ℕ) → length s ≤ m → is_until h (take m s) k ≡ is_until h s k
+to-short : (h : Bool) (m : ℕ) (s k : List ℕ) → length s ≤ m → is_until h (take m s) k ≡ is_until h s k
 to-short h m s k l = ap (λ z. is_until h z k) (take_all m s l)
 
 pub to-cut : (h : Bool) (m : ℕ) (s k : List ℕ) → length k ≤ m → m < length s
@@ -35,7 +35,7 @@ pub to-included : (m : ℕ) (s k : List ℕ) → length k ≤ m → is_until tru
 to-included m s k l = ⊎_elim (λ h. to-short true m s k h) (λ h. to-cut true m s k l h) (short-or-long m (length s))
 
 -- a start
-pub from-short : (h : Bool) (m : ℕ) (s k : List ℕ) → length s ≤ m → is_from_bound h (take m s) k ≡ is_from_bound h s k
+from-short : (h : Bool) (m : ℕ) (s k : List ℕ) → length s ≤ m → is_from_bound h (take m s) k ≡ is_from_bound h s k
 from-short h m s k l = ap (λ z. is_from_bound h z k) (take_all m s l)
 
 pub from-cut : (h : Bool) (m : ℕ) (s k : List ℕ) → length k ≤ m → m < length s

@@ -38,7 +38,7 @@ use Rattle.rart_nodes.proofs.walks.WalkLemmas.{after-append, after-none, after-o
 
 -- a choice of two
 module _ {A : Type 0} where
-  pub or-none : (o : Option A) → option_or o None ≡ o
+  or-none : (o : Option A) → option_or o None ≡ o
   or-none None = refl
   or-none (Some x) = refl
 
@@ -193,10 +193,6 @@ module _ {V : Type 0} where
     bound = refl;
     still = or-none (option_map (λ x. x) (nearest e h s (pairs_of t))) ∙ option_map_id (nearest e h s (pairs_of t));
   }
-
-  pub seek-few : (e : End) (h : Bool) (s : List ℕ) (es : List (List ℕ × V)) (r : List ℕ) (t : Trie V)
-      (found : Option (List ℕ × V)) → SeeksAt e h s es r t found → length r ≤ length s
-  seek-few e h s es r t found w = omega (arith, ap length w.bound, length-append w.passed r)
 
   pub seek-on : (e : End) (h : Bool) (s : List ℕ) (es : List (List ℕ × V)) (r : List ℕ) (t : Trie V)
       (found : Option (List ℕ × V)) (v : Option V) (b : Option ℕ) (n : Option (Trie V)) (r1 : List ℕ) (d : ℕ)

@@ -48,7 +48,7 @@ module _ {V : Type 0} where
   amortized_visits-potential (l ∷ []) = omega arith
   amortized_visits-potential (l ∷ m ∷ ls) = omega (arith, one-two l.0)
 
-  pub potential-low : (h : ℕ) (ls : List (Level V)) → AreLow h ls → potential ls ≤ h
+  potential-low : (h : ℕ) (ls : List (Level V)) → AreLow h ls → potential ls ≤ h
   potential-low h [] w = omega arith
   potential-low h (l ∷ []) w = omega (arith, w.0, one-few l.0)
   potential-low h (l ∷ m ∷ ls) w = omega (arith, w.0, two-few l.0, amortized_visits-few m ls)

@@ -122,10 +122,6 @@ module _ {V : Type 0} where
       → begins p (prefix_of t) ≡ true → Some (k, t) ≡ tree_part g k p (Some t)
   part-within g k t p e h = sym (ap (λ f. f k) (descend-left (finds g) t p e) ∙ rw h refl)
 
-  pub part-ended : (g : Grown) (k : SegmentList) (t : Trie V) (p : List ℕ) → Some [] ≡ strip_prefix (prefix_of t) p
-      → Some (k, t) ≡ tree_part g k p (Some t)
-  part-ended g k (node q v n cs) p e = rw (← e) refl
-
   pub part-on : (g : Grown) (k : SegmentList) (t : Trie V) (p r : List ℕ) (b : ℕ) → is_canonical t ≡ true
       → Some r ≡ strip_prefix (prefix_of t) p → Some b ≡ slice_get r 0
       → tree_part g (k ++ g (prefix_of t)) r (child_in b t) ≡ tree_part g k p (Some t)

@@ -118,7 +118,7 @@ module _ {V : Type 0} where
   pub no-levels : (longest places : ℕ) (k : SegmentList) → length k ≤ longest → IsWalk {V = V} longest places k []
   no-levels longest places k l = record { stations = tt; reserved = tt; short = l }
 
-  pub deeper : (longest deep more : ℕ) (ls : List (Level V)) → deep ≤ more → AreLevels longest deep ls
+  deeper : (longest deep more : ℕ) (ls : List (Level V)) → deep ≤ more → AreLevels longest deep ls
       → AreLevels longest more ls
   deeper longest deep more [] h w = tt
   deeper longest deep more (l ∷ ls) h w = (omega (arith, w.0), w.1, w.2, w.3, w.4)

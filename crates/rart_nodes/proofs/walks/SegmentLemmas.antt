@@ -7,7 +7,7 @@ use Rattle.std.proofs.lemmas.Map.Lookups.{exact_bytes}
 use Rattle.rart_keys.proofs.strings.ByteOrder.{cmp-itself}
 
 -- a first segment is compared to as many bytes
-pub cmp-front : (p xs k : List ℕ) → length p ≤ length k
+cmp-front : (p xs k : List ℕ) → length p ≤ length k
     → slice_cmp nat_cmp (p ++ xs) k ≡ ordering_then (slice_cmp nat_cmp p (take (length p) k))
     (slice_cmp nat_cmp xs (drop (length p) k))
 cmp-front [] xs k h = refl

@@ -174,7 +174,7 @@ module _ {V : Type 0} where
       (simp append_assoc)
 
   -- what is known of the first child of the deepest level
-  pub first-child : (longest places : ℕ) (k : SegmentList) (d : ℕ) (t : Trie V) (b : ℕ) (cs : Children V)
+  first-child : (longest places : ℕ) (k : SegmentList) (d : ℕ) (t : Trie V) (b : ℕ) (cs : Children V)
       (ls : List (Level V)) → IsWalk longest places k ((child b t cs, d) ∷ ls) → Child longest places k d t cs ls
   first-child longest places k d t b cs ls p =
       let w = p.stations.1 in

@@ -15,7 +15,7 @@ not-childless V p n w = ⊎_elim (λ h. cc) (λ h. absurd h) w.0
 
 module _ {V : Type 0} where
   -- the deepest level is at the end of the path, and has children
-  abbrev pub IsFresh : SegmentList → List (Level V) → Type 0
+  abbrev IsFresh : SegmentList → List (Level V) → Type 0
   IsFresh k [] = ⊥
   IsFresh k (l ∷ ls) = (l.1 ≡ length k) × (l.0 ≡ no_children → ⊥)
 

@@ -126,7 +126,7 @@ pub(crate) fn short_start<K: KeyTrait>(start: Bound<&[u8]>, longest: usize) -> B
     }
 }
 
-/// What is left of a walk with an end. An `Option` of a walk isn't shown to be droppable by a caller's proof.
+/// The rest of a walk with an end. An `Option` of a walk isn't shown to be droppable by a caller's proof.
 #[derive(Drop)]
 enum WalkState<'a, K: KeyTrait, P: Partial, V, C> {
     Active(KeyWalk<'a, K, P, V, C>),

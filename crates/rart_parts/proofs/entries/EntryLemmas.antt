@@ -20,7 +20,7 @@ module _ {X : Type 0} (k : ℕ) (x : X) (e : ℕ × X) (es : List (ℕ × X)) wh
   with_before h = ap (λ b. cond b ((k, x) ∷ e ∷ es) (cond (eqb e.0 k) ((k, x) ∷ es) (e ∷ with_entry k x es)))
       (lt-ltb k e.0 h)
 
-  pub with_same : e.0 ≡ k → with_entry k x (e ∷ es) ≡ (k, x) ∷ es
+  with_same : e.0 ≡ k → with_entry k x (e ∷ es) ≡ (k, x) ∷ es
   with_same h =
       ap (λ b. cond b ((k, x) ∷ e ∷ es) (cond (eqb e.0 k) ((k, x) ∷ es) (e ∷ with_entry k x es)))
       (le-ltb k e.0 (omega (arith, h)))
@@ -75,7 +75,7 @@ module _ {X : Type 0} where
       ∙ sym (ap (λ c. cond c (Some x) (child_at b (e ∷ es))) t.0))
       (eqb_tells k b))
 
-  pub child_at-with_another : (k : ℕ) (x : X) (es : List (ℕ × X)) (b : ℕ)
+  child_at-with_another : (k : ℕ) (x : X) (es : List (ℕ × X)) (b : ℕ)
       → child_at b (with_another k x es) ≡ cond (eqb k b) (Some x) (child_at b es)
   child_at-with_another k x [] b = refl
   child_at-with_another k x (e ∷ es) b = grind (arith, child_at-with_another k x es b)
@@ -90,12 +90,6 @@ module _ {X : Type 0} where
   below_start k b [] s a h = refl
   below_start k b (e ∷ es) s a h = at_other b e es (λ q. omega (arith, q, s, h))
       ∙ below_start e.0 b es a.0 a.1 (omega arith)
-
-  pub replaced_absent : (k : ℕ) (w : X) (es : List (ℕ × X)) → child_at k es ≡ None → replaced_at k w es ≡ es
-  replaced_absent k w [] h = refl
-  replaced_absent k w (e ∷ es) h =
-      let n = first_absent k e es h in replaced_other k e es w n
-      ∙ ap (λ l. e ∷ l) (replaced_absent k w es (sym (at_other k e es n) ∙ h))
 
   pub without_absent : (k : ℕ) (es : List (ℕ × X)) → child_at k es ≡ None → without_byte k es ≡ es
   without_absent k [] h = refl

@@ -72,7 +72,7 @@ length-members_from-add has from (suc a) b =
     ]
 
 -- the first position, and the set without it
-pub members_from-first : (has less : ℕ → Bool) (from count p : ℕ) → from ≤ p → p < from + count → has p ≡ true
+members_from-first : (has less : ℕ → Bool) (from count p : ℕ) → from ≤ p → p < from + count → has p ≡ true
     → ((k : ℕ) → k < p → has k ≡ false)
     → ((k : ℕ) → k < from + count → less k ≡ (not (eqb k p) && has k))
     → members_from has from count ≡ p ∷ members_from less from count
@@ -111,32 +111,6 @@ pub members-first : (has less : ℕ → Bool) (capacity p : ℕ) → (p < capaci
 members-first has less capacity p first rest =
     members_from-first has less 0 capacity p (omega arith) (omega (arith, first.0)) first.1 first.2
     (λ k h. rest k (within k capacity h))
-
--- all positions are above p where the set has none up to p
-above-all : (has : ℕ → Bool) (p from count : ℕ) → ((k : ℕ) → k ≤ p → has k ≡ false)
-    → positions_above p (members_from has from count) ≡ members_from has from count
-above-all has p from zero none = refl
-above-all has p from (suc count) none = ⊎_elim
-    (λ l. elim (has from) as (λ b. positions_above p
-    (cond b (from ∷ members_from has (suc from) count) (members_from has (suc from) count))
-    ≡ cond b (from ∷ members_from has (suc from) count) (members_from has (suc from) count)) [
-      | true ↦ ap (λ b. cond b (from ∷ positions_above p (members_from has (suc from) count))
-          (positions_above p (members_from has (suc from) count))) (lt-ltb p from l)
-          ∙ ap (λ l. from ∷ l) (above-all has p (suc from) count none)
-      | false ↦ above-all has p (suc from) count none
-    ])
-    (λ l. ap (λ b. positions_above p (cond b (from ∷ members_from has (suc from) count)
-    (members_from has (suc from) count))) (none from l) ∙ above-all has p (suc from) count none
-    ∙ sym (ap (λ b. cond b (from ∷ members_from has (suc from) count) (members_from has (suc from) count))
-    (none from l)))
-    (cases_lt p from)
-
-pub members-above : (has : ℕ → Bool) (capacity p q : ℕ) → p < q → ((k : ℕ) → k < q → has k ≡ false)
-    → positions_above p (members has capacity) ≡ members has capacity
-members-above has capacity p q h none = above-all has p 0 capacity (λ k l. none k (omega arith))
-
-pub first-passed : (p k : ℕ) (ks : List ℕ) → k ≤ p → positions_above p (k ∷ ks) ≡ positions_above p ks
-first-passed p k ks h = ap (λ b. cond b (k ∷ positions_above p ks) (positions_above p ks)) (le-ltb p k h)
 
 -- equal tests have the same last position
 pub last_agrees : (f g : ℕ → Bool) (n : ℕ) → ((k : ℕ) → k < n → f k ≡ g k) → (r : Option ℕ) → IsLast f n r

@@ -63,13 +63,13 @@ bit_test w n k h = ap (λ m. not (eqb (bit_and n m) 0)) (one_shifted w k h) ∙ 
     ∙ times_zero (bit_at n k) (2 ^ k) (pow_positive k) (bit_at-lt n k)
 
 -- a number of `width` bits has no bit from there on
-pub bit_above : (n width k : ℕ) → n < 2 ^ width → width ≤ k → has_bit n k ≡ false
+bit_above : (n width k : ℕ) → n < 2 ^ width → width ≤ k → has_bit n k ≡ false
 bit_above n width k h le = ap (λ b. eqb b 1) (bit_at_above n width k h le)
 
 true_false : {b : Bool} → b ≡ true → b ≡ false → ⊥
 true_false p q = cc
 
-pub bit_below : (n width k : ℕ) → n < 2 ^ width → has_bit n k ≡ true → k < width
+bit_below : (n width k : ℕ) → n < 2 ^ width → has_bit n k ≡ true → k < width
 bit_below n width k h e = ⊎_elim (λ l. l) (λ l. absurd (true_false e (bit_above n width k h l))) (cases_lt k width)
 
 -- ---- the first and the last bit

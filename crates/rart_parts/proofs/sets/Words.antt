@@ -16,11 +16,11 @@ word_within : (s width k : ℕ) → 0 < width → k < s * width → k / width < 
 word_within s width k p h = search rules
 
 -- the rows before the next one, and it, are below the end
-pub next_row : (i s width : ℕ) → i < s → i * width + width ≤ s * width
+next_row : (i s width : ℕ) → i < s → i * width + width ≤ s * width
 next_row i s width h = let m : suc i * width ≤ s * width = mul-le-mul_right width h in omega (arith, m)
 
 -- a place in a row is below the end
-pub in_row : (i s width at : ℕ) → i < s → at < width → i * width + at < s * width
+in_row : (i s width at : ℕ) → i < s → at < width → i * width + at < s * width
 in_row i s width at h l = omega (arith, next_row i s width h)
 
 -- the row of the position before `end`
@@ -80,7 +80,7 @@ module _ {W : Type 0} (width : ℕ) (number : W → ℕ) (p : 0 < width) where
       (eqb_tells (k / width) (q / width))
 
   -- bit j of word i
-  pub row_has : (ws : List W) (i j : ℕ) (x : W) → i < length ws → x ≡ get_or ws i x → j < width
+  row_has : (ws : List W) (i j : ℕ) (x : W) → i < length ws → x ≡ get_or ws i x → j < width
       → words_have width number ws (i * width + j) ≡ has_bit (number x) j
   row_has ws i j x h e l =
       (λ r. has_bit (get_or (map number ws) (div-mul-add i width j l r) 0) (mod-mul-add i width j l r))

@@ -68,7 +68,7 @@ module _ {V : Type 0} where
   prefix-first b x p (e ∷ es) n h = h.0
 
   -- a canonical tree whose keys begin with one byte has it in its prefix
-  pub starts-prefix : (b : ℕ) (t : Trie V) → IsCanonical t → AllFirst b (pairs_of t) → StartsWith b (prefix_of t)
+  starts-prefix : (b : ℕ) (t : Trie V) → IsCanonical t → AllFirst b (pairs_of t) → StartsWith b (prefix_of t)
   starts-prefix b (node (x ∷ p) v n cs) w h
       = prefix-first b x p (own_pair v ++ children_pairs cs) (some-pairs (node (x ∷ p) v n cs) w) h
   starts-prefix b (node [] (Some v) n cs) w h = absurd h.0
@@ -83,12 +83,12 @@ module _ {V : Type 0} where
       absurd (omega (arith, e, f, w.2.3.0))
 
   -- entries below a byte
-  abbrev pub EndsBelow : ℕ → List (ℕ × Trie V) → Type 0
+  abbrev EndsBelow : ℕ → List (ℕ × Trie V) → Type 0
   EndsBelow b [] = Unit {0}
   EndsBelow b (e ∷ es) = (e.0 < b) × EndsBelow b es
 
   -- entries below the byte of the first string, if there is one
-  abbrev pub EndsBefore : List (ℕ × Trie V) → List (List ℕ) → Type 0
+  abbrev EndsBefore : List (ℕ × Trie V) → List (List ℕ) → Type 0
   EndsBefore es [] = Unit {0}
   EndsBefore es (r ∷ rs) = EndsBelow (slice_index r 0) es
 
@@ -143,7 +143,7 @@ module _ {V : Type 0} where
   keys-with_prefix p (e ∷ es) = ap (λ z. (p ++ e.0) ∷ z) (keys-with_prefix p es)
 
 -- the pairs that are made: the node's own and those of its children
-abbrev pub made : {V : Type 0} → Option V → List (ℕ × Trie V) → List (List ℕ × V)
+abbrev made : {V : Type 0} → Option V → List (ℕ × Trie V) → List (List ℕ × V)
 made v es = own_pair v ++ children_pairs (as_children es)
 
 -- a node of the keys with the value v, of which the children es are made; `rest` is still to come, at `place`
@@ -166,7 +166,7 @@ pub record Building {F V : Type 0} (pre : F → ℕ → Type 0) (step : F → �
 module _ {F V : Type 0} (pre : F → ℕ → Type 0) (step : F → ℕ → V → F → Type 0) (m : Option ℕ) (d : ℕ)
     (keys rest : List (Bor (List ℕ))) (w : ℕ) (es : List (ℕ × Trie V)) (v : Option V) (from place : ℕ) (f g : F)
     (h : Building pre step m d keys rest w es v from place f g) where
-  pub made-length : length (made v es) + length rest ≡ length keys
+  made-length : length (made v es) + length rest ≡ length keys
   made-length = omega (
     arith,
     ap length h.keys_made,
@@ -210,7 +210,7 @@ module _ {F V : Type 0} (pre : F → ℕ → Type 0) (step : F → ℕ → V →
   pub next-callable : (ks : List (Bor (List ℕ))) → length ks ≤ length rest → CanTake pre step place (length ks) g
   next-callable ks within = can_take-fewer pre step place (length rest) (length ks) g within h.callable
 
-  pub place-fits : place + length rest ≡ from + length keys
+  place-fits : place + length rest ≡ from + length keys
   place-fits = omega (arith, h.placed, made-length)
 
   -- a child more

@@ -28,7 +28,7 @@ AllHave p [] = Unit {0}
 AllHave p (r ∷ rs) = (r ≡ p ++ drop (length p) r) × AllHave p rs
 
 -- k is not above l
-abbrev pub UpTo : List ℕ → List ℕ → Type 0
+abbrev UpTo : List ℕ → List ℕ → Type 0
 UpTo k l = slice_cmp nat_cmp k l ≡ Greater → ⊥
 
 below-up_to : (k l : List ℕ) → IsLess k l → UpTo k l
@@ -134,7 +134,7 @@ least b k [] h = absurd (cc)
 least b k (y ∷ s) h = ⊎_elim (λ g. omega arith)
     (⊎_elim (λ g. omega arith) (λ g. let f = rw (is_greater b y g) at h in absurd (cc))) (order b y)
 
-abbrev pub AtLeast : ℕ → List (List ℕ) → Type 0
+abbrev AtLeast : ℕ → List (List ℕ) → Type 0
 AtLeast b [] = Unit {0}
 AtLeast b (r ∷ rs) = (b ≤ slice_index r 0) × AtLeast b rs
 
@@ -238,7 +238,7 @@ pub rests-whole : (ks : List (Bor (List ℕ))) → rests 0 ks ≡ keys_in ks
 rests-whole [] = refl
 rests-whole (k ∷ ks) = ap (λ z. k.now ∷ z) (rests-whole ks)
 
-pub reach-whole : (m : Option ℕ) (ks : List (Bor (List ℕ))) → AreWithin m (keys_in ks) → Reach m 0 ks
+reach-whole : (m : Option ℕ) (ks : List (Bor (List ℕ))) → AreWithin m (keys_in ks) → Reach m 0 ks
 reach-whole m [] h = tt
 reach-whole m (k ∷ ks) h = (omega arith, h.0, reach-whole m ks h.1)
 

@@ -4,11 +4,6 @@ use Rattle.std.proofs.Common.{Err}
 use Rattle.std.specs.Prelude.{OnErr}
 use Rattle.rart_trie.specs.build.ValueCalls.{CanTake, Takes}
 
--- what holds anyhow holds on an error
-pub on_err : {A E P : Type 0} (r : Result A E) → P → OnErr r P
-on_err (Ok x) p = tt
-on_err (Err x) p = p
-
 -- the calls that give values
 module _ {F V : Type 0} (pre : F → ℕ → Type 0) (step : F → ℕ → V → F → Type 0) where
   pub takes-append : (i j : ℕ) (f m g : F) (xs ys : List V) → j ≡ i + length xs → Takes step i f xs m
@@ -28,23 +23,3 @@ module _ {F V : Type 0} (pre : F → ℕ → Type 0) (step : F → ℕ → V →
   can_take-rest i j zero k f g (v ∷ vs) e s c t = absurd (omega (arith, s))
   can_take-rest i j (suc n) k f g (v ∷ vs) e s c t
       = can_take-rest (suc i) j n k t.0 g vs (omega (arith, e)) (omega (arith, s)) (c.1 v t.0 t.1) t.2
-
--- calls that give the items of a list, from the front
-pub takes-list : {F V : Type 0} (step : F → ℕ → V → F → Type 0) (items : F → List V)
-    → ((f : F) (i : ℕ) (v : V) (g : F) → step f i v g → items f ≡ v ∷ items g) → (i : ℕ) (f g : F) (vs : List V)
-    → Takes step i f vs g → items f ≡ vs ++ items g
-takes-list step items one i f g [] t = ap items t
-takes-list step items one i f g (v ∷ vs) t = one f i v t.0 t.1
-    ∙ ap (λ z. v ∷ z) (takes-list step items one (suc i) t.0 g vs t.2)
-
-pub can_take-list : {F V : Type 0} (pre : F → ℕ → Type 0) (step : F → ℕ → V → F → Type 0) (items : F → List V)
-    → ((f : F) (i : ℕ) → 0 < length (items f) → pre f i)
-    → ((f : F) (i : ℕ) (v : V) (g : F) → step f i v g → items f ≡ v ∷ items g)
-    → (i n : ℕ) (f : F) → n ≤ length (items f) → CanTake pre step i n f
-can_take-list pre step items can one i zero f h = tt
-can_take-list pre step items can one i (suc n) f h
-    = (
-      can f i (omega arith),
-      λ v g s. can_take-list pre step items can one (suc i) n g
-          (omega (arith, h, ap length (one f i v g s))),
-    )

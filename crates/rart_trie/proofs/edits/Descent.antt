@@ -32,7 +32,7 @@ overlap-step : (b : Bool) (x y : ℕ) (p k : List ℕ) (n : ℕ) (r : Overlap)
 overlap-step true x y p k n r e = rw (e, one-add n) refl
 overlap-step false x y p k n r e = refl
 
-pub overlap-is : (p k : List ℕ) → overlap p k ≡ record {
+overlap-is : (p k : List ℕ) → overlap p k ≡ record {
   shared = take (common_prefix_len nat_eq p k) p;
   left
       = drop (common_prefix_len nat_eq p k) p;

@@ -22,7 +22,7 @@ use Rattle.rart_trie.proofs.tries.Descents.{descend-absent, descend-at, descend-
 use Rattle.rart_trie.proofs.shapes.ShapeLemmas.{lookup-records, records}
 
 -- one more child keeps the capacity that the number of children fixes
-pub widened-capacity : (n : ℕ) → widened_capacity n (capacity_of n) ≡ capacity_of (suc n)
+widened-capacity : (n : ℕ) → widened_capacity n (capacity_of n) ≡ capacity_of (suc n)
 widened-capacity n = grind (arith, nat_tests)
 
 module _ {V : Type 0} where

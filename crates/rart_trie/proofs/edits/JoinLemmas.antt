@@ -42,7 +42,7 @@ module _ {V : Type 0} where
   joined-not p v w cs h = rw h refl
 
   -- the children that are left
-  pub as-without : (b : ℕ) (es : List (ℕ × Trie V)) → as_children (entries.without_byte b es)
+  as-without : (b : ℕ) (es : List (ℕ × Trie V)) → as_children (entries.without_byte b es)
       ≡ children_without b (as_children es)
   as-without b [] = refl
   as-without b (e ∷ es) = elim (eqb e.0 b) as (λ z. as_children (cond z es (e ∷ entries.without_byte b es))

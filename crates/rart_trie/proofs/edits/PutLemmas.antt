@@ -103,7 +103,7 @@ module _ {V : Type 0} where
       (equal_or_not x y)
 
   mutual
-    pub trie_lookup-put : (k q : List ℕ) (v : V) (t : Trie V)
+    trie_lookup-put : (k q : List ℕ) (v : V) (t : Trie V)
         → trie_lookup q (trie_put k v t) ≡ (if bytes_eq k q then Some v else trie_lookup q t)
     trie_lookup-put k q v (node p old n cs) = trie_lookup-put_node k q v p old n cs
         (λ b c r s. trie_lookup-put_child b c r s v cs)

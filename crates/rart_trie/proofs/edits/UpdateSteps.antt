@@ -146,7 +146,7 @@ module _ {V : Type 0} where
       (λ n. rw (eq-no e.0 b n, eq-no e.0 b n) (ap (λ l. child e.0 e.1 l) (without-replaced b t' es)))
       (equal_or_not e.0 b)
 
-  pub joins-replaced : (m : Option ℕ) (p : List ℕ) (b : ℕ) (t t' : Trie V) (es : List (ℕ × Trie V))
+  joins-replaced : (m : Option ℕ) (p : List ℕ) (b : ℕ) (t t' : Trie V) (es : List (ℕ × Trie V))
       → Some t ≡ child_at b es → prefix_of t' ≡ prefix_of t → JoinsWithin m p (as_children es)
       → JoinsWithin m p (as_children (replaced_at b t' es))
   joins-replaced m p b t t' [] at h j = j

@@ -14,7 +14,7 @@ use Rattle.rart_trie.proofs.edits.CallbackLemmas.{always-on, folds-keep}
 
 -- a callback along two lists, one after the other
 module _ {F A : Type 0} (R : F → A → F → Type 0) where
-  pub folds-append : (xs ys : List A) (f g h : F) → FoldsTo R f xs g → FoldsTo R g ys h → FoldsTo R f (xs ++ ys) h
+  folds-append : (xs ys : List A) (f g h : F) → FoldsTo R f xs g → FoldsTo R g ys h → FoldsTo R f (xs ++ ys) h
   folds-append [] ys f g h i j = subst (λ p. FoldsTo R p ys h) (sym i) j
   folds-append (x ∷ xs) ys f g h i j = (i.0, i.1, folds-append xs ys i.0 g h i.2 j)
 

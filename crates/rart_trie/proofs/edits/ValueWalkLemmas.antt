@@ -30,7 +30,7 @@ use Rattle.rart_trie.proofs.storages.EntryPlaces.{middle-count, middle-replaced,
 
 module _ {F V : Type 0} (call : Mut F (MutBor V × Unit {0}) (Unit {0} × (MutBor V × Unit {0}))) where
   -- what changes below the child at b changes among the children
-  pub changes-child : (b low : ℕ) (r : List ℕ) (t u : Trie V) (es : List (ℕ × Trie V)) (f g : F)
+  changes-child : (b low : ℕ) (r : List ℕ) (t u : Trie V) (es : List (ℕ × Trie V)) (f g : F)
       → AreCanonical low (as_children es) → Some t ≡ child_at b es
       → ChangesBelow call (b ∷ r) f (pairs_of t) (pairs_of u) g
       → ChangesBelow call (b ∷ r) f (children_pairs (as_children es))
@@ -50,13 +50,13 @@ module _ {F V : Type 0} (call : Mut F (MutBor V × Unit {0}) (Unit {0} × (MutBo
   ]
 
   -- those of a walk over all values
-  pub changes-all : (es ds : List (List ℕ × V)) (f g : F) → ChangesBelow call [] f es ds g
+  changes-all : (es ds : List (List ℕ × V)) (f g : F) → ChangesBelow call [] f es ds g
       → FoldsTo (λ p v q. LentValue call p v q) f (values_of es) g
   changes-all es ds f g h = subst (λ xs. FoldsTo (λ p v q. LentValue call p v q) f (values_of xs) g) (below-nil es)
       (changes-folds call [] es ds f g h)
 
   -- the value of the node, changed where there is one
-  abbrev pub ChangesOwn : F → Option V → Option V → F → Type 0
+  abbrev ChangesOwn : F → Option V → Option V → F → Type 0
   ChangesOwn f None None f' = f ≡ f'
   ChangesOwn f None (Some w) f' = ⊥
   ChangesOwn f (Some v) None f' = ⊥
@@ -266,7 +266,7 @@ module _ {F V : Type 0} (call : Mut F (MutBor V × Unit {0}) (Unit {0} × (MutBo
           ∙ ap (λ r. option_map (λ e. e.0) (slice_get r 0)) e in absurd (cc)
 
 -- p begins each key after the prefix q
-abbrev pub BeginsAll : List ℕ → List ℕ → Type 0
+abbrev BeginsAll : List ℕ → List ℕ → Type 0
 BeginsAll p q = (k : List ℕ) → begins p (q ++ k) ≡ true
 
 -- where it ends within a node's prefix, or after it

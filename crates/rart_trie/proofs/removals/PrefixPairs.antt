@@ -38,7 +38,7 @@ module _ {V : Type 0} where
   pairs-child_if c (Some t) cs = refl
 
   mutual
-    pub pairs-without : (q : List ℕ) (t : Trie V) → IsCanonical t
+    pairs-without : (q : List ℕ) (t : Trie V) → IsCanonical t
         → tree_pairs (trie_without_prefix q t) ≡ without_prefix q (pairs_of t)
     pairs-without q (node p v n cs) w = elim (strip_prefix p q) as (λ o. strip_prefix p q ≡ o
         → tree_pairs (remaining_after o (begins q p) (node p v n cs) (λ b r. children_without_prefix b r cs))
@@ -91,7 +91,7 @@ module _ {V : Type 0} where
       ]
 
   mutual
-    pub canonical-without : (q : List ℕ) (t : Trie V) → IsCanonical t → IsCanonicalTree (trie_without_prefix q t)
+    canonical-without : (q : List ℕ) (t : Trie V) → IsCanonical t → IsCanonicalTree (trie_without_prefix q t)
     canonical-without q (node p v n cs) w = elim (strip_prefix p q)
         as (λ o. IsCanonicalTree (remaining_after o (begins q p) (node p v n cs)
         (λ b r. children_without_prefix b r cs))) [
@@ -124,12 +124,12 @@ module _ {V : Type 0} where
   tree_pairs-without q (Some t) w = pairs-without q t w
 
   -- the part below
-  pub canonical-prefixed : (p : List ℕ) (o : Option (Trie V)) → IsCanonicalTree o
+  canonical-prefixed : (p : List ℕ) (o : Option (Trie V)) → IsCanonicalTree o
       → IsCanonicalTree (option_map (prefixed_trie p) o)
   canonical-prefixed p None w = tt
   canonical-prefixed p (Some (node q v n cs)) w = w
 
-  pub pairs-prefixed : (p : List ℕ) (o : Option (Trie V))
+  pairs-prefixed : (p : List ℕ) (o : Option (Trie V))
       → tree_pairs (option_map (prefixed_trie p) o) ≡ with_prefix p (tree_pairs o)
   pairs-prefixed p None = refl
   pairs-prefixed p (Some (node q v n cs)) = sym (prefix-twice p q (own_pair v ++ children_pairs cs))

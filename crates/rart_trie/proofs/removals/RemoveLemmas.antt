@@ -105,7 +105,7 @@ module _ {V : Type 0} where
       (λ h. rw (is_greater c d h) refl)) (order c d)
 
   mutual
-    pub trie_lookup-removed : (k q : List ℕ) (t : Trie V) → IsCanonical t
+    trie_lookup-removed : (k q : List ℕ) (t : Trie V) → IsCanonical t
         → tree_lookup q (trie_remove k t) ≡ (if bytes_eq k q then None else trie_lookup q t)
     trie_lookup-removed k q (node p v n cs) w
         = elim (strip_prefix p k) as (λ o. strip_prefix p k ≡ o

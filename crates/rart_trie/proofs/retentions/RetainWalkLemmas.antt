@@ -42,7 +42,7 @@ pub record IsOneLeaf {V : Type 0} (es : List (ℕ × Trie V)) : Type 0 where
   pub childless : children_in leaf ≡ no_children
 
 -- a key that one of the children holds, whose removal from the children, or below, requests memory
-abbrev pub IsWide : {V : Type 0} → List ℕ → ℕ → Trie V → ℕ → Type 0
+abbrev IsWide : {V : Type 0} → List ℕ → ℕ → Trie V → ℕ → Type 0
 IsWide k n t m = ((is_leaf_at k t ≡ true) × (4 < n) × (m ≤ previous_capacity n + 1))
     ⊎ ((children_in t ≢ no_children) × (trie_remove_allocates None k t ≡ true))
 

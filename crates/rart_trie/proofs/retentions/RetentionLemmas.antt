@@ -61,7 +61,7 @@ module _ {V : Type 0} where
         | false ↦ more
       ]
 
-  pub remaining-none : (es : List (List ℕ × V)) → remaining_pairs es [] ≡ es
+  remaining-none : (es : List (List ℕ × V)) → remaining_pairs es [] ≡ es
   remaining-none [] = refl
   remaining-none (e ∷ es) = refl
 

@@ -34,7 +34,7 @@ pub prefix-with_records : {V : Type 0} (t : Trie V) → prefix_of (with_records 
 prefix-with_records (node p v n cs) = refl
 
 mutual
-  pub canonical-with_records : {V : Type 0} (t : Trie V) → IsCanonical t → IsCanonical (with_records t)
+  canonical-with_records : {V : Type 0} (t : Trie V) → IsCanonical t → IsCanonical (with_records t)
   canonical-with_records (node p v n cs) w
       = (
         inl refl,
@@ -42,7 +42,7 @@ mutual
         canonical-children_with_records 0 cs w.2,
       )
 
-  pub canonical-children_with_records : {V : Type 0} (low : ℕ) (cs : Children V) → AreCanonical low cs
+  canonical-children_with_records : {V : Type 0} (low : ℕ) (cs : Children V) → AreCanonical low cs
       → AreCanonical low (children_with_records cs)
   canonical-children_with_records low no_children w = tt
   canonical-children_with_records low (child b t cs) w

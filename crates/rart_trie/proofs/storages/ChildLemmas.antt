@@ -30,7 +30,7 @@ module _ {V : Type 0} where
   with_entry-length b t es s = omega (arith, length-with_entry b t es (sym s))
 
   -- there is no child below the least byte
-  pub child_at-low : (b low : ℕ) (es : List (ℕ × Trie V)) → b < low → AreCanonical low (as_children es)
+  child_at-low : (b low : ℕ) (es : List (ℕ × Trie V)) → b < low → AreCanonical low (as_children es)
       → child_at b es ≡ None
   child_at-low b low [] h w = refl
   child_at-low b low (e ∷ es) h w = rw (eq-no e.0 b (λ q. omega (arith, w.0)))

@@ -42,7 +42,7 @@ module _ {X : Type 0} where
 
 module _ {V : Type 0} where
   -- entries as a trie's children
-  pub first_child-entries : (es : List (ℕ × Trie V)) → first_child (as_children es) ≡ slice_get es 0
+  first_child-entries : (es : List (ℕ × Trie V)) → first_child (as_children es) ≡ slice_get es 0
   first_child-entries [] = refl
   first_child-entries (e ∷ es) = refl
 

@@ -34,7 +34,7 @@ module _ {V : Type 0} where
   below-from b r (e ∷ es) h = rw (begins-from b r e.0 h.0) (below-from b r es h.1)
 
   -- a child in the place of one with its prefix
-  pub replaced-canonical : (b low : ℕ) (t u : Trie V) (es : List (ℕ × Trie V)) → AreCanonical low (as_children es)
+  replaced-canonical : (b low : ℕ) (t u : Trie V) (es : List (ℕ × Trie V)) → AreCanonical low (as_children es)
       → Some t ≡ child_at b es → IsCanonical u → prefix_of u ≡ prefix_of t
       → AreCanonical low (as_children (replaced_at b u es))
   replaced-canonical b low t u [] w s c q = absurd (cc)
@@ -49,7 +49,7 @@ module _ {V : Type 0} where
         (w.0, w.1, w.2, replaced-canonical b (suc e.0) t u es w.3 d c q)
   ]
 
-  pub replaced-edges : (b low : ℕ) (t u : Trie V) (es : List (ℕ × Trie V)) → AreCanonical low (as_children es)
+  replaced-edges : (b low : ℕ) (t u : Trie V) (es : List (ℕ × Trie V)) → AreCanonical low (as_children es)
       → Some t ≡ child_at b es → edges_of (as_children (replaced_at b u es)) ≡ edges_of (as_children es)
   replaced-edges b low t u [] w s = absurd (cc)
   replaced-edges b low t u (e ∷ es) w s = elim (found b low t e es w s) [

@@ -85,7 +85,7 @@ as_children-under b (e ∷ es) = elim (ltb e.0 b)
     ]
 
 module _ {V : Type 0} where
-  pub under-canonical : (b low : ℕ) (cs : Children V) → AreCanonical low cs → AreCanonical low (children_under b cs)
+  under-canonical : (b low : ℕ) (cs : Children V) → AreCanonical low cs → AreCanonical low (children_under b cs)
   under-canonical b low no_children w = tt
   under-canonical b low (child c t cs) w = elim (ltb c b)
       as (λ z. AreCanonical low (cond z (child c t (children_under b cs)) (children_under b cs))) [

@@ -47,10 +47,6 @@ module _ {V : Type 0} where
   needed-test None (child b t no_children) h = absurd (cc)
   needed-test None (child b t (child c u cs)) h = inr tt
 
-  or-right : (v : Option V) → (is_some v || true) ≡ true
-  or-right None = refl
-  or-right (Some v) = refl
-
   test-needed : (v : Option V) (cs : Children V) → IsSome v ⊎ HasTwoChildren cs → (is_some v || has_two_children cs)
       ≡ true
   test-needed (Some v) cs h = refl

@@ -162,7 +162,7 @@ module _ {V : Type 0} where
   }
 
   -- a look-up of the key enters one node, or one more than below the child
-  pub entered-here : (t : Trie V) → entered_nodes (prefix_of t) t ≡ 1
+  entered-here : (t : Trie V) → entered_nodes (prefix_of t) t ≡ 1
   entered-here t = descend-ended counts t (prefix_of t) []
       (sym (strip_prefix-append (prefix_of t) []) ∙ ap (strip_prefix (prefix_of t)) (append-nil (prefix_of t))) refl
 
@@ -174,7 +174,7 @@ module _ {V : Type 0} where
       ∙ ap (λ o. 1 + descend_tree counts (c ∷ k) o) h
 
   -- a child that is shown without its byte
-  pub child-some : (o : Option (ℕ × Trie V)) (u : Trie V) → option_map (λ e. e.1) o ≡ Some u
+  child-some : (o : Option (ℕ × Trie V)) (u : Trie V) → option_map (λ e. e.1) o ≡ Some u
       → (b : ℕ) × (o ≡ Some (b, u))
   child-some None u h = absurd (cc)
   child-some (Some e) u h = let s : e.1 ≡ u = cc in (e.0, ap (λ t. Some (e.0, t)) s)
@@ -182,16 +182,6 @@ module _ {V : Type 0} where
   pub child-none : (o : Option (ℕ × Trie V)) → ◌≡◌ {A = Option (Trie V)} (option_map (λ e. e.1) o) None → o ≡ None
   child-none None h = refl
   child-none (Some e) h = absurd (cc)
-
-  end-after : (e : End) (t : Trie V) (x : List ℕ × V) → end_of e (pairs_of t) ≡ Some x
-      → length (prefix_of t) ≤ length x.0
-  end-after e (node p v n cs) x h = after-some (end_of e (own_pair v ++ children_pairs cs))
-      (sym (end_of-map e (λ y. (p ++ y.0, y.1)) (own_pair v ++ children_pairs cs)) ∙ h)
-    where
-      after-some : (o : Option (List ℕ × V)) → option_map (λ y. (p ++ y.0, y.1)) o ≡ Some x → length p ≤ length x.0
-      after-some None s = absurd (cc)
-      after-some (Some y) s = let q : ◌≡◌ {A = List ℕ × V} (p ++ y.0, y.1) x = cc in
-          omega (arith, ap (λ z. length z.0) q, length-append p y.0)
 
   -- A descent from the root of a tree to t along bytes q, which raised a count from m to n.
   pub record TreePath (e : End) (o : Option (Trie V)) (m : ℕ) (q : List ℕ) (t : Trie V) (n : ℕ) : Type 0 where
@@ -238,18 +228,6 @@ module _ {V : Type 0} where
           entered-on b.0 s.0.0 t u w below.found first,
         );
       }
-
-  -- the bytes are within those of the longest key
-  pub tree-fits : (e : End) (o : Option (Trie V)) (t : Trie V) (m n : ℕ) (q : List ℕ) → TreePath e o m q t n
-      → length q ≤ longest_key (tree_pairs o)
-  tree-fits e o t m n q l = omega (
-    arith,
-    ap length l.path,
-    length-append l.front (prefix_of t),
-    length-append l.front l.rest.0,
-    end-after e t l.rest l.here,
-    end-short e (l.front ++ l.rest.0, l.rest.1) (tree_pairs o) l.whole,
-  )
 
   -- where it ends, the bytes are the key
   pub record TreeEnd (e : End) (o : Option (Trie V)) (m : ℕ) (q : List ℕ) (t : Trie V) (n : ℕ) : Type 0 where

@@ -23,25 +23,25 @@ pub first-append : (c : ℕ) (p k : List ℕ) → StartsWith c p → StartsWith 
 first-append c [] k h = absurd h
 first-append c (x ∷ p) k h = h
 
-pub from_first : (low c : ℕ) (k : List ℕ) → low ≤ c → StartsWith c k → IsFrom low k
+from_first : (low c : ℕ) (k : List ℕ) → low ≤ c → StartsWith c k → IsFrom low k
 from_first low c [] l h = h
 from_first low c (x ∷ k) l h = omega arith
 
-pub from_more : (low c : ℕ) (k : List ℕ) → low ≤ c → IsFrom c k → IsFrom low k
+from_more : (low c : ℕ) (k : List ℕ) → low ≤ c → IsFrom c k → IsFrom low k
 from_more low c [] l h = h
 from_more low c (x ∷ k) l h = omega arith
 
-pub nil-below_from : (low : ℕ) (k : List ℕ) → IsFrom low k → IsLess [] k
+nil-below_from : (low : ℕ) (k : List ℕ) → IsFrom low k → IsLess [] k
 nil-below_from low [] h = absurd h
 nil-below_from low (x ∷ k) h = refl
 
-pub first-below_from : (c : ℕ) (k l : List ℕ) → StartsWith c k → IsFrom (suc c) l → IsLess k l
+first-below_from : (c : ℕ) (k l : List ℕ) → StartsWith c k → IsFrom (suc c) l → IsLess k l
 first-below_from c [] l f h = absurd f
 first-below_from c (x ∷ k) [] f h = absurd h
 first-below_from c (x ∷ k) (y ∷ l) f h = rw (is_less x y (omega arith)) refl
 
 module _ {V : Type 0} where
-  pub all_first-with_prefix : (c : ℕ) (p : List ℕ) (es : List (List ℕ × V)) → StartsWith c p
+  all_first-with_prefix : (c : ℕ) (p : List ℕ) (es : List (List ℕ × V)) → StartsWith c p
       → AllFirst c (with_prefix p es)
   all_first-with_prefix c p [] h = tt
   all_first-with_prefix c p (e ∷ es) h = (first-append c p e.0 h, all_first-with_prefix c p es h)

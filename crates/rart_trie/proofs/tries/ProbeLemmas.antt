@@ -22,7 +22,7 @@ no_steps : (q : List ℕ) → steps_along (λ p. None) q ≡ 0
 no_steps [] = refl
 no_steps (b ∷ q) = rw (no_steps q) refl
 
-pub few_steps : (f : List ℕ → Option NodeRecord) (q : List ℕ) → steps_along f q ≤ length q
+few_steps : (f : List ℕ → Option NodeRecord) (q : List ℕ) → steps_along f q ≤ length q
 few_steps f [] = omega arith
 few_steps f (b ∷ q) = omega (arith, few_step (f []) b, few_steps (λ p. f (b ∷ p)) q)
   where

@@ -133,7 +133,7 @@ impl<P: Partial, V, N> Storage<P, V, N> {
 }
 
 impl<V, N> Storage<(), V, N> {
-    /// Returns the storage with a value. It has none. It does not allocate.
+    /// Returns the storage, which has no value, with one. It does not allocate.
     pub(crate) fn with_value(self, value: V) -> Self
         requires { stored_value self ≡ None }
         ensures { HoldsSo self (Some value) result }

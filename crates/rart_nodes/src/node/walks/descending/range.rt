@@ -46,7 +46,7 @@ fn is_within_start<K: KeyTrait>(key: &K, start: &Bound<K>) -> bool
     }
 }
 
-/// What is left of a walk with a start.
+/// The rest of a walk with a start.
 #[derive(Drop)]
 enum BackWalkState<'a, K: KeyTrait, P: Partial, V, C> {
     Active(KeyBackWalk<'a, K, P, V, C>),
