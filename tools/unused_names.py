@@ -17,6 +17,8 @@ DECLARED = re.compile(rf"^( *)((?:pub |abbrev |data |record )*)({NAME}) (?::|\(|
 TOKEN = re.compile(NAME)
 IMPORT = re.compile(r"^ *use (Rattle\.\S+?)\.\{([^}]*)\}", re.M)
 WHOLE = re.compile(r"^ *use (Rattle\.\S+) as (\S+)", re.M)
+# A set of rules that other files may name: its members must be as public.
+RULES = re.compile(r"^ *pub ruleset \S+ = \(([^)]*)\)", re.M)
 WORDS = {"module", "use", "open", "let", "where", "in"}
 
 
@@ -73,9 +75,12 @@ def read_sources():
 
 
 def names_used_elsewhere(texts):
-    """Returns the pairs of module and name that some file imports, or names by an alias of the module."""
+    """Returns the pairs of module and name that some file imports, names by an alias of the module, or has as a rule of
+    a public set."""
     used = set()
-    for text in texts.values():
+    for path, text in texts.items():
+        for names in RULES.findall(text):
+            used.update((module_of(path), name.strip()) for name in names.split(","))
         for module, names in IMPORT.findall(text):
             used.update((module, name.strip().split(" as ")[0]) for name in names.split(","))
         for module, alias in WHOLE.findall(text):

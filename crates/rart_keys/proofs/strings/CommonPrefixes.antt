@@ -8,7 +8,7 @@ use Rattle.std.proofs.lemmas.List.Sums.{common_prefix_len-le}
 use Rattle.rart_keys.specs.CommonPrefix.{IsCommonPrefixLength}
 
 -- past the end of either list nothing is common
-common_prefix_len-end : (xs ys : List ℕ) (i : ℕ) → min (length xs) (length ys) ≤ i
+pub common_prefix_len-end : (xs ys : List ℕ) (i : ℕ) → min (length xs) (length ys) ≤ i
     → common_prefix_len nat_eq (drop i xs) (drop i ys) ≡ 0
 common_prefix_len-end xs ys i h = omega (
   arith,
