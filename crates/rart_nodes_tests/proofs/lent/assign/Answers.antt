@@ -10,6 +10,3 @@ drop-requires c = omega arith
 
 pub drop-requires-in_ok-child-2 : goal.drop-requires-in_ok-child-2
 drop-requires-in_ok-child-2 c = omega arith
-
-pub drop-requires-in_ok-child-3 : goal.drop-requires-in_ok-child-3
-drop-requires-in_ok-child-3 c = omega arith

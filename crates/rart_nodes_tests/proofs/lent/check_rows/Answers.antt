@@ -10,6 +10,3 @@ drop-requires g c = omega arith
 
 pub drop-requires-2 : goal.drop-requires-2
 drop-requires-2 g c = omega arith
-
-pub drop-requires-3 : goal.drop-requires-3
-drop-requires-3 g c = omega arith

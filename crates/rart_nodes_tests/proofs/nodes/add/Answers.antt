@@ -10,6 +10,3 @@ drop-requires g c = omega arith
 
 pub drop-requires-in-Err-2 : goal.drop-requires-in-Err-2
 drop-requires-in-Err-2 g c = omega arith
-
-pub drop-requires-in-Err-3 : goal.drop-requires-in-Err-3
-drop-requires-in-Err-3 g c = omega arith

@@ -11,9 +11,6 @@ drop-requires g c = omega arith
 pub drop-requires-in-Err-Memory-2 : goal.drop-requires-in-Err-Memory-2
 drop-requires-in-Err-Memory-2 g c = omega arith
 
-pub drop-requires-in-Err-Memory-3 : goal.drop-requires-in-Err-Memory-3
-drop-requires-in-Err-Memory-3 g c = omega arith
-
 pub drop-other-requires : goal.drop-other-requires
 drop-other-requires g c = omega arith
 
@@ -23,9 +20,6 @@ drop-requires-in-Err g c = omega arith
 pub drop-requires-in-Err-2 : goal.drop-requires-in-Err-2
 drop-requires-in-Err-2 g c = omega arith
 
-pub drop-requires-in-Err-3 : goal.drop-requires-in-Err-3
-drop-requires-in-Err-3 g c = omega arith
-
 pub drop-child-requires : goal.drop-child-requires
 drop-child-requires g c = omega arith
 
@@ -34,6 +28,3 @@ drop-requires-in-Ok-delete_child g c = omega arith
 
 pub drop-requires-in-Ok-delete_child-2 : goal.drop-requires-in-Ok-delete_child-2
 drop-requires-in-Ok-delete_child-2 g c = omega arith
-
-pub drop-requires-in-Ok-delete_child-3 : goal.drop-requires-in-Ok-delete_child-3
-drop-requires-in-Ok-delete_child-3 g c = omega arith

@@ -10,6 +10,3 @@ drop-requires g c = omega arith
 
 pub drop-requires-in_ok-child-in-Ok-2 : goal.drop-requires-in_ok-child-in-Ok-2
 drop-requires-in_ok-child-in-Ok-2 g c = omega arith
-
-pub drop-requires-in_ok-child-in-Ok-3 : goal.drop-requires-in_ok-child-in-Ok-3
-drop-requires-in_ok-child-in-Ok-3 g c = omega arith

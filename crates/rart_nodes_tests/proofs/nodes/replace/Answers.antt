@@ -11,9 +11,6 @@ drop-requires c = omega arith
 pub drop-requires-in-Ok-2 : goal.drop-requires-in-Ok-2
 drop-requires-in-Ok-2 c = omega arith
 
-pub drop-requires-in-Ok-3 : goal.drop-requires-in-Ok-3
-drop-requires-in-Ok-3 c = omega arith
-
 pub drop-back-inside-requires : goal.drop-back-inside-requires
 drop-back-inside-requires c = omega arith
 
@@ -23,9 +20,6 @@ drop-requires-then-eq c = omega arith
 pub drop-requires-then-eq-2 : goal.drop-requires-then-eq-2
 drop-requires-then-eq-2 c = omega arith
 
-pub drop-requires-then-eq-3 : goal.drop-requires-then-eq-3
-drop-requires-then-eq-3 c = omega arith
-
 pub drop-back-inside-requires-in-Err : goal.drop-back-inside-requires-in-Err
 drop-back-inside-requires-in-Err c = omega arith
 
@@ -34,6 +28,3 @@ drop-requires-else-eq c = omega arith
 
 pub drop-requires-else-eq-2 : goal.drop-requires-else-eq-2
 drop-requires-else-eq-2 c = omega arith
-
-pub drop-requires-else-eq-3 : goal.drop-requires-else-eq-3
-drop-requires-else-eq-3 c = omega arith

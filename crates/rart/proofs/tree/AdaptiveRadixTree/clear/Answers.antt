@@ -10,6 +10,3 @@ drop-requires-after-self-gt-SHALLOW-3-2 g c = omega arith
 
 pub drop-requires-after-self-gt-SHALLOW-4-2 : goal.drop-requires-after-self-gt-SHALLOW-4-2
 drop-requires-after-self-gt-SHALLOW-4-2 g c = omega arith
-
-pub drop-requires-after-self-gt-SHALLOW-5-2 : goal.drop-requires-after-self-gt-SHALLOW-5-2
-drop-requires-after-self-gt-SHALLOW-5-2 g c = omega arith

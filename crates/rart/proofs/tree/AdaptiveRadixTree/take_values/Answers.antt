@@ -11,9 +11,6 @@ drop-requires-then-longest-gt-SHALLOW-3-2 g c = omega arith
 pub drop-requires-then-longest-gt-SHALLOW-4-2 : goal.drop-requires-then-longest-gt-SHALLOW-4-2
 drop-requires-then-longest-gt-SHALLOW-4-2 g c = omega arith
 
-pub drop-requires-then-longest-gt-SHALLOW-5-2 : goal.drop-requires-then-longest-gt-SHALLOW-5-2
-drop-requires-then-longest-gt-SHALLOW-5-2 g c = omega arith
-
 pub drop-requires-else-longest-gt-SHALLOW-2-2 : goal.drop-requires-else-longest-gt-SHALLOW-2-2
 drop-requires-else-longest-gt-SHALLOW-2-2 g c = omega arith
 
@@ -22,6 +19,3 @@ drop-requires-else-longest-gt-SHALLOW-3-2 g c = omega arith
 
 pub drop-requires-else-longest-gt-SHALLOW-4-2 : goal.drop-requires-else-longest-gt-SHALLOW-4-2
 drop-requires-else-longest-gt-SHALLOW-4-2 g c = omega arith
-
-pub drop-requires-else-longest-gt-SHALLOW-5-2 : goal.drop-requires-else-longest-gt-SHALLOW-5-2
-drop-requires-else-longest-gt-SHALLOW-5-2 g c = omega arith
