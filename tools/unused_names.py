@@ -19,6 +19,8 @@ IMPORT = re.compile(r"^ *use (Rattle\.\S+?)\.\{([^}]*)\}", re.M)
 WHOLE = re.compile(r"^ *use (Rattle\.\S+) as (\S+)", re.M)
 # A set of rules that other files may name: its members must be as public.
 RULES = re.compile(r"^ *pub ruleset \S+ = \(([^)]*)\)", re.M)
+# A lemma that a function's tactic uses.
+TACTIC = re.compile(rf"\bcrate::(proofs(?:::\w+)+)::({NAME})")
 WORDS = {"module", "use", "open", "let", "where", "in"}
 
 
@@ -75,9 +77,13 @@ def read_sources():
 
 
 def names_used_elsewhere(texts):
-    """Returns the pairs of module and name that some file imports, names by an alias of the module, or has as a rule of
-    a public set."""
+    """Returns the pairs of module and name that some file imports, names by an alias of the module, has as a rule of a
+    public set, or names in a tactic of a source."""
     used = set()
+    for path in sorted((TOP / "crates").glob("*/src/**/*.rt")):
+        crate = path.relative_to(TOP / "crates").parts[0]
+        for module, name in TACTIC.findall(path.read_text()):
+            used.add((".".join(("Rattle", crate, *module.split("::"))), name))
     for path, text in texts.items():
         for names in RULES.findall(text):
             used.update((module_of(path), name.strip()) for name in names.split(","))

@@ -1,5 +1,6 @@
 pub mod AppendLemmas
 pub mod EditLemmas
+pub mod EqualLemmas
 pub mod FieldLemmas
 pub mod HeldLemmas
 pub mod Lending

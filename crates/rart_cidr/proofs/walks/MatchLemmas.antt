@@ -163,6 +163,14 @@ module _ {T : Type 0} where
       (λ m i j. let l : m ≤ w = omega (arith, j, wide) in
       first-bits v o w m l ∙ none m i (omega (arith, l, g)) l)
 
+  -- one octet more without a network
+  pub none_before : (v : List (List ℕ × T)) (o : List ℕ) (w low from : ℕ) → IsFirstAfter v o w from None
+      → HasNoneBetween v o w low from → HasNoneBetween v o w low ((from / 8 + 1) * 8)
+  none_before v o w low from h i = λ n g l m. ⊎_elim
+      (λ k. i n g k m)
+      (λ k. h n k (omega (arith, k, l)) m)
+      (less_or_not n from)
+
   pub none_after : (S : List (List ℕ × List (List ℕ × T))) (o q : List ℕ) (w low : ℕ) → IsAscending S → AreStrides S
       → AreBytes o → w ≤ 8 * length o → q ≡ take (low / 8) o → None ≡ lookup q S
       → IsFirstAfter (routes_of S) o w low None
