@@ -5,6 +5,7 @@ pub mod DenseRemovals
 pub mod DirectLemmas
 pub mod DirectPlaces
 pub mod FirstAbove
+pub mod FourLemmas
 pub mod IndexLemmas
 pub mod IndexWalk
 pub mod KeyedLemmas

@@ -4,6 +4,7 @@ pub mod Contents
 pub mod Dense
 pub mod Direct
 pub mod EntryShapes
+pub mod FourKeys
 pub mod Indexed
 pub mod Keyed
 pub mod Loans

@@ -2,6 +2,7 @@
 
 mod byte_index;
 pub mod direct_mapping;
+pub mod four_keys;
 pub mod indexed_mapping;
 pub mod keyed_mapping;
 pub mod sorted_keyed_mapping;
@@ -13,6 +14,7 @@ ghost use Rattle.rart_maps.specs.Bounds.{bound_of};
 ghost use Rattle.rart_parts.specs.Entries.{BytesAscend, child_at, with_entry, without_byte, replaced_at};
 
 pub use direct_mapping::{DirectMapping, DirectMappingIntoIter, DirectMappingIter};
+pub use four_keys::FourKeys;
 pub use indexed_mapping::{IndexedMapping, IndexedMappingIntoIter, IndexedMappingIter};
 pub use keyed_mapping::KeyedMapping;
 pub use sorted_keyed_mapping::{

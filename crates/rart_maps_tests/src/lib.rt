@@ -12,6 +12,8 @@ mod conversions;
 #[cfg(test)]
 mod extras;
 #[cfg(test)]
+mod four;
+#[cfg(test)]
 mod mappings;
 #[cfg(test)]
 mod sizes;

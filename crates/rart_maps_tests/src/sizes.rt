@@ -41,7 +41,7 @@ fn sorted(alloc: Global) -> bool {
 }
 
 fn wide(alloc: Global) -> bool {
-    is_one_block!(Indexed48, alloc, 360 + 48 * 24) && is_one_block!(Direct, alloc, 64 + 256 * 32)
+    is_one_block!(Indexed48, alloc, 360 + 48 * 24) && is_one_block!(Direct, alloc, 56 + 256 * 24)
 }
 
 #[test]

@@ -1,7 +1,9 @@
 //! The map of the children of each kind of node, read by the map's own calls.
+ghost use Rattle.rart_maps.specs.FourKeys.{HasKeyEach};
 
 use crate::nodes::{TestNode, fill, leaf};
-use rart_maps::mapping::NodeMapping;
+use rart_block::Block;
+use rart_maps::mapping::{FourKeys, NodeMapping};
 use rart_nodes::node::ChildMap;
 use std::alloc::Global;
 use std::process::Abort;
@@ -22,11 +24,28 @@ fn value_at<const W: usize, M: NodeMapping<TestNode, W>>(map: &M, byte: u8) -> O
     map.seek_child(byte)?.value().copied()
 }
 
+/// Returns the same of at most four children, whose keys aren't in their block.
+fn read_four(
+    keys: &FourKeys,
+    children: &Block<Option<u64>, (), TestNode, 4>,
+) -> (usize, usize, usize)
+    requires { HasKeyEach keys.now children.now }
+{
+    let mut found = 0_usize;
+    for byte in 0..=255_u8 {
+        let child = keys.seek_child(children, byte);
+        if child.and_then(|child| child.value().copied()) == Some(u64::from(byte)) {
+            found = found.wrapping_add(1);
+        }
+    }
+    (4, keys.num_children(children), found)
+}
+
 /// Returns the kind of a node by the variant of its map, and what the map's own calls say.
 fn read_kind(node: &TestNode) -> (usize, (usize, usize, usize)) {
     match node.child_map() {
         ChildMap::Childless => (0, (0, 0, 0)),
-        ChildMap::Node4(map) => (4, read(map)),
+        ChildMap::Node4(keys, children) => (4, read_four(keys, children)),
         ChildMap::Node16(map) => (16, read(map)),
         ChildMap::Node48(map) => (48, read(map)),
         ChildMap::Node256(map) => (256, read(map)),

@@ -1,5 +1,6 @@
 pub mod build
 pub mod edits
+pub mod formers
 pub mod ranges
 pub mod shapes
 pub mod stats

@@ -1,3 +1,4 @@
+pub mod Kinds
 pub mod Lends
 pub mod Stored
 pub mod StoredFalls

@@ -60,7 +60,7 @@ impl<P: Partial, V> DefaultNode<P, V> {
         ensures pairs { pairs_of result ≡ (P.bytes prefix, value) ∷ [] }
     {
         DefaultNode {
-            storage: Storage::Leaf(prefix, value),
+            storage: Storage::leaf(prefix, value),
         }
     }
 

@@ -1,7 +1,7 @@
 //! A part of a key whose bytes are stored inline, and read by contracts as `arr_partial_bytes`.
 ghost use Rattle.std.specs.Prelude.{◌≡◌, ◌≤◌, length};
 ghost use Rattle.rart_keys.specs.KeyBytes.{AreBytes};
-ghost use Rattle.rart_keys.specs.PartLengths.{part_length};
+ghost use Rattle.rart_keys.specs.PartLengths.{joined_code, part_length};
 
 use crate::common_prefix::common_prefix_length;
 use crate::inline_bytes::joined_bytes;
@@ -16,9 +16,10 @@ use std::slice::Iter;
 #[derive(Debug, Drop)]
 pub struct ArrPartial<const SIZE: usize> {
     stored: [u8; SIZE],
-    // the code of the length
-    code: u32,
-    ghost in_range: { part_length SIZE stored code ≤ SIZE },
+    // The code of the length, its low byte first. One field of two bytes would have to lie at an even address.
+    code_low: u8,
+    code_high: u8,
+    ghost in_range: { part_length SIZE stored (joined_code code_low code_high) ≤ SIZE },
     ghost full_width: { length stored ≡ SIZE },
     ghost are_bytes: { AreBytes stored },
 }
@@ -26,6 +27,7 @@ pub struct ArrPartial<const SIZE: usize> {
 impl<const SIZE: usize> ArrPartial<SIZE> {
     ghost use Rattle.std.specs.Prelude.{◌≡◌, ◌+◌, ◌≤◌, ◌++◌, ◌∷◌, [], length};
     ghost use Rattle.rart_keys.specs.ArrPartialBytes.{arr_partial_bytes};
+    ghost use Rattle.rart_keys.specs.PartLengths.{joined_code};
 
     /// Returns the bytes of `src` followed by a zero byte. Both must fit in `SIZE` bytes.
     pub fn key(src: &[u8]) -> Self
@@ -48,7 +50,7 @@ impl<const SIZE: usize> ArrPartial<SIZE> {
         ensures value { result.now ≡ arr_partial_bytes self.now }
         ensures within { length (arr_partial_bytes self.now) ≤ SIZE }
     {
-        &self.stored[..part_length(&self.stored, self.code)]
+        &self.stored[..part_length(&self.stored, self.code())]
     }
 
     // Every part but a clone is made here.
@@ -58,7 +60,18 @@ impl<const SIZE: usize> ArrPartial<SIZE> {
     {
         let mut stored = joined_bytes(first, second);
         let code = mark_length(&mut stored, first.len() + second.len());
-        ArrPartial { stored, code }
+        ArrPartial {
+            stored,
+            code_low: (code % 256) as u8,
+            code_high: (code / 256) as u8,
+        }
+    }
+
+    #[inline(always)]
+    fn code(&self) -> u16
+        ensures { result ≡ joined_code self.now.code_low self.now.code_high }
+    {
+        self.code_low as u16 + self.code_high as u16 * 256
     }
 }
 
@@ -72,7 +85,8 @@ impl<const SIZE: usize> Clone for ArrPartial<SIZE> {
     fn clone(&self) -> Result<Self, AllocError> {
         Ok(ArrPartial {
             stored: self.stored,
-            code: self.code,
+            code_low: self.code_low,
+            code_high: self.code_high,
         })
     }
 }
@@ -105,7 +119,7 @@ impl<const SIZE: usize> Partial for ArrPartial<SIZE> {
     ghost use Rattle.std.specs.Prelude.{Some};
     ghost use Rattle.rart_keys.specs.ArrPartialBytes.{arr_partial_bytes};
     ghost use Rattle.rart_keys.specs.KeyBytes.{length-take-within, AreBytes-take};
-    ghost use Rattle.rart_keys.specs.PartLengths.{part_length};
+    ghost use Rattle.rart_keys.specs.PartLengths.{joined_code, part_length};
 
     const MAXIMUM_SIZE: Option<usize> = Some(SIZE);
 
@@ -142,7 +156,7 @@ impl<const SIZE: usize> Partial for ArrPartial<SIZE> {
     }
 
     fn len(&self) -> usize {
-        part_length(&self.stored, self.code)
+        part_length(&self.stored, self.code())
     }
 
     fn prefix_length_common(&self, other: &Self) -> usize {
@@ -161,11 +175,11 @@ impl<const SIZE: usize> Partial for ArrPartial<SIZE> {
         self.as_ref()
     }
 
-    ghost within = { λ p. length-take-within (part_length SIZE p.stored p.code) SIZE p.stored
-        p.in_range };
+    ghost within = { λ p. length-take-within
+        (part_length SIZE p.stored (joined_code p.code_low p.code_high)) SIZE p.stored p.in_range };
 
-    ghost are_bytes = { λ p. AreBytes-take (part_length SIZE p.stored p.code) p.stored
-        p.are_bytes };
+    ghost are_bytes = { λ p. AreBytes-take
+        (part_length SIZE p.stored (joined_code p.code_low p.code_high)) p.stored p.are_bytes };
 }
 
 impl<const SIZE: usize> From<ArrayKey<SIZE>> for ArrPartial<SIZE> {

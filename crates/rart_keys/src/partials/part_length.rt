@@ -1,21 +1,21 @@
-//! The length of a part, in four bytes beside its array.
+//! The length of a part, in two bytes beside its array.
 
-// A length of eight bytes would make each node of a tree a third larger. Four count the bytes of any array below 4 GiB.
-// In a larger one the end of the part is marked in the array itself.
+// Two bytes leave room for the keys of four children in a node of 24 bytes, and count the bytes of any array below
+// 64 KiB. In a larger one the end of the part is marked in the array itself.
 
 ghost use Rattle.std.specs.Prelude.{◌≡◌, ◌-◌, ◌≤◌, drop, length, replicate, take};
 ghost use Rattle.rart_keys.specs.KeyBytes.{AreBytes};
 ghost use Rattle.rart_keys.specs.PartLengths.{marked_length, part_length};
 
-// The greatest length that four bytes hold.
-const MOST: usize = u32::MAX as usize;
+// The greatest length that two bytes hold.
+const MOST: usize = u16::MAX as usize;
 
 // What follows a part that doesn't fill a larger array. Zeros follow it.
 const MARK: u8 = 1;
 
 /// Returns the length of the part in `stored`, by its code.
 #[inline(always)]
-pub(crate) fn part_length<const SIZE: usize>(stored: &[u8; SIZE], code: u32) -> usize
+pub(crate) fn part_length<const SIZE: usize>(stored: &[u8; SIZE], code: u16) -> usize
     ensures { result ≡ part_length SIZE stored.now code }
 {
     if SIZE <= MOST {
@@ -30,7 +30,7 @@ pub(crate) fn part_length<const SIZE: usize>(stored: &[u8; SIZE], code: u32) -> 
 /// Returns the code of `len`, the length of the part at the front of `stored`, which has zeros after it. In a larger
 /// array it marks the end of the part.
 #[inline(always)]
-pub(crate) fn mark_length<const SIZE: usize>(stored: &mut [u8; SIZE], len: usize) -> u32
+pub(crate) fn mark_length<const SIZE: usize>(stored: &mut [u8; SIZE], len: usize) -> u16
     requires within { len ≤ SIZE }
     requires zeros { drop len stored.old ≡ replicate (SIZE - len) 0 }
     requires are_bytes { AreBytes stored.old }
@@ -40,7 +40,7 @@ pub(crate) fn mark_length<const SIZE: usize>(stored: &mut [u8; SIZE], len: usize
     ensures are_bytes { AreBytes stored.new }
 {
     if SIZE <= MOST {
-        return len as u32;
+        return len as u16;
     }
     if len == SIZE {
         return 0;

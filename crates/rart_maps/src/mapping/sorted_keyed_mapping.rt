@@ -7,7 +7,7 @@ ghost use Rattle.rart_parts.specs.Errors.{IsMemory};
 ghost use Rattle.rart_maps.specs.Bounds.{bound_of};
 
 mod iter;
-mod search;
+pub(super) mod search;
 
 use crate::mapping::sorted_keyed_mapping::search::{
     first_above, first_not_below, goes_last, place_of,
@@ -26,7 +26,7 @@ use std::marker::Model;
 #[derive(Drop)]
 pub struct SortedKeyedMapping<N, const W: usize, E = ()> {
     // The keys past the children are 255.
-    block: Block<E, [u8; W], N, W>,
+    pub(super) block: Block<E, [u8; W], N, W>,
 }
 
 impl<N, const W: usize, E> Model for SortedKeyedMapping<N, W, E> {

@@ -4,7 +4,7 @@ use Rattle.rart_parts.specs.Entries.{child_at, replaced_at}
 use Rattle.rart_trie.specs.edits.ChildChanges.{children_replaced, with_child_replaced, children_with_value}
 use Rattle.rart_trie.specs.edits.ChildChanges.{with_child_value}
 use Rattle.rart_trie.specs.edits.NodeEdits.{stored_node, with_value}
-use Rattle.rart_trie.specs.declared.node.storage.Storage.{Storage}
+use Rattle.rart_trie.specs.declared.node.storage.Kind.{Kind}
 use Rattle.rart_trie.specs.storages.Stored.{child_entries, storage_capacity, stored_prefix, stored_value}
 use Rattle.rart_trie.specs.storages.Stored.{StoresSame, StoresSo}
 use Rattle.rart_trie.specs.tries.Trie.{Trie, node, child, child_in}
@@ -47,12 +47,12 @@ module _ {V : Type 0} where
       ∙ ap (node p v w) (ap as_children (ee ∙ ap (λ z. replaced_at b z es) et) ∙ as-with_value b x t es at)
 
   -- a node over a storage s: the child at a byte, and what the node ends as with t in the place of s
-  module _ {P : Type 0} (bytes : P → List ℕ) (n : Trie V) (s : Storage P V (Trie V))
+  module _ {P : Type 0} (bytes : P → List ℕ) (n : Trie V) (s : Kind P V (Trie V))
       (is : stored_node bytes s ≡ n) where
     pub child-stored : (b : ℕ) → child_at b (child_entries s) ≡ child_in b n
     child-stored b = sym (child_of-entries b (child_entries s)) ∙ ap (child_in b) is
 
-    pub storage-child_replaced : (b : ℕ) (c : Trie V) (t : Storage P V (Trie V))
+    pub storage-child_replaced : (b : ℕ) (c : Trie V) (t : Kind P V (Trie V))
         → StoresSo s (replaced_at b c (child_entries s)) t → stored_node bytes t ≡ with_child_replaced b c n
     storage-child_replaced b c t h =
         ap (λ p. node (bytes p) (stored_value t) (storage_capacity t) (as_children (child_entries t))) h.3
@@ -60,6 +60,6 @@ module _ {V : Type 0} where
         ∙ with_child_replaced-is (bytes (stored_prefix s)) (stored_value s) (storage_capacity s) (storage_capacity t)
         b c (child_entries s) (child_entries t) h.0 h.1 ∙ ap (with_child_replaced b c) is
 
-    pub storage-same : (t : Storage P V (Trie V)) → StoresSame s t → stored_node bytes t ≡ n
+    pub storage-same : (t : Kind P V (Trie V)) → StoresSame s t → stored_node bytes t ≡ n
     storage-same t h = same-node (bytes (stored_prefix s)) (stored_value s) (storage_capacity s) (storage_capacity t)
         (child_entries s) (child_entries t) h.0 h.1 h.2 (ap bytes h.3) ∙ is

@@ -4,7 +4,7 @@ use Rattle.std.proofs.Common.{arith, Option, Some, None, is_some}
 use Rattle.std.proofs.lemmas.List.{append-nil}
 use Rattle.rart_trie.specs.declared.node.edits.retain.Retention.{Retention}
 use Rattle.rart_trie.specs.declared.node.edits.retain.Retention.TheVariants.{Done, Rejected, Refused}
-use Rattle.rart_trie.specs.declared.node.storage.Storage.{Storage}
+use Rattle.rart_trie.specs.declared.node.storage.Kind.{Kind}
 use Rattle.rart_trie.specs.edits.Deletion.{needs_merge, merged_if_needed}
 use Rattle.rart_trie.specs.edits.RetainSteps.{AppliesChild, KeepsFirst, finished_as, finished_node}
 use Rattle.rart_trie.specs.shapes.Shape.{capacity_of}
@@ -76,7 +76,7 @@ module _ {V : Type 0} where
   joined-leaf p n es h = rw h.one h.childless
 
 -- what is done with a child keeps the value of its node
-pub applied-value : {P V : Type 0} (h : Bool) (b : ℕ) (below walk : Retention) (s s' : Storage P V (Trie V))
+pub applied-value : {P V : Type 0} (h : Bool) (b : ℕ) (below walk : Retention) (s s' : Kind P V (Trie V))
     → AppliesChild h b below walk s s' → stored_value s' ≡ stored_value s
 applied-value h b Done Done s s' a = ap stored_value a
 applied-value h b Done Rejected s s' a = absurd a
@@ -89,7 +89,7 @@ applied-value h b Refused Rejected s s' a = absurd a
 applied-value h b Refused Refused s s' a = ap stored_value a
 
 -- what is done with a child keeps the prefix of its node
-pub applied-prefix : {P V : Type 0} (h : Bool) (b : ℕ) (below walk : Retention) (s s' : Storage P V (Trie V))
+pub applied-prefix : {P V : Type 0} (h : Bool) (b : ℕ) (below walk : Retention) (s s' : Kind P V (Trie V))
     → AppliesChild h b below walk s s' → stored_prefix s' ≡ stored_prefix s
 applied-prefix h b Done Done s s' a = ap stored_prefix a
 applied-prefix h b Done Rejected s s' a = absurd a

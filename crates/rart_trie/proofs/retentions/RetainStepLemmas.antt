@@ -10,7 +10,7 @@ use Rattle.rart_keys.proofs.strings.ByteOrder.{eq-yes, eq-no}
 use Rattle.rart_parts.specs.Entries.{child_at, entries_above, replaced_at, without_byte}
 use Rattle.rart_trie.specs.declared.node.edits.retain.Retention.{Retention}
 use Rattle.rart_trie.specs.declared.node.edits.retain.Retention.TheVariants.{Done, Rejected, Refused}
-use Rattle.rart_trie.specs.declared.node.storage.Storage.{Storage}
+use Rattle.rart_trie.specs.declared.node.storage.Kind.{Kind}
 use Rattle.rart_trie.specs.edits.Retentions.{CallsFor, CanRetain, EndsBelowRefused, Fate, kept, removed, refused}
 use Rattle.rart_trie.specs.edits.Retentions.{key_refused, refusals, refused_key, remaining_pairs}
 use Rattle.rart_trie.specs.edits.RetainSteps.{AppliesChild, KeepsFirst, RetainsBelow, next_byte}
@@ -254,7 +254,7 @@ module _ {F V : Type 0} (call : Mut F (Bor (List ℕ) × (MutBor V × Unit {0}))
   pub retaining-step : {P : Type 0} (q : List ℕ) (f0 : F) (t0 : Trie V) (keeps holds : Bool) (f g : F) (p : List ℕ)
       (w : Option V)
       (n b : ℕ) (es : List (ℕ × Trie V)) (u x : Trie V) (i : Upcoming call q f0 t0 keeps holds f p w n b es u)
-      (below walk : Retention) (s s' : Storage P V (Trie V)) (next : Option ℕ) → IsCanonical x
+      (below walk : Retention) (s s' : Kind P V (Trie V)) (next : Option ℕ) → IsCanonical x
       → KeepsFirst (prefix_of u) (prefix_of x) → RetainsBelow call (q ++ p) below f u x g
       → storage_capacity s ≡ n → child_entries s ≡ replaced_at b x es → AppliesChild holds b below walk s s'
       → next ≡ next_byte walk b (child_entries s')

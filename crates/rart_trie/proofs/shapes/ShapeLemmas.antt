@@ -42,7 +42,7 @@ mutual
         canonical-children_with_records 0 cs w.2,
       )
 
-  canonical-children_with_records : {V : Type 0} (low : ℕ) (cs : Children V) → AreCanonical low cs
+  pub canonical-children_with_records : {V : Type 0} (low : ℕ) (cs : Children V) → AreCanonical low cs
       → AreCanonical low (children_with_records cs)
   canonical-children_with_records low no_children w = tt
   canonical-children_with_records low (child b t cs) w

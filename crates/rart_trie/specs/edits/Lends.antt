@@ -7,13 +7,13 @@ use Rattle.rart_keys.specs.declared.partials.Partial as partials
 use Rattle.rart_trie.specs.contracts.node.DefaultNode.{the_row}
 use Rattle.rart_trie.specs.edits.Loan.{EndsLent, LeavesAt}
 use Rattle.rart_trie.specs.contracts.node.storage.Storage.{the_row as storage_row}
-use Rattle.rart_trie.specs.declared.node.storage.Storage.{Storage}
+use Rattle.rart_trie.specs.declared.node.storage.Kind.{Kind}
 use Rattle.rart_trie.specs.edits.NodeEdits.{stored_node}
 use Rattle.rart_trie.specs.tries.Trie.{Trie, trie_put}
 
 -- the storage was borrowed: the node ends with what was left of it
 abbrev pub lends_storage : (P V : RattleType) → (G : partials.Ghosts P.Denot) → MutBor (Trie V.Denot)
-    → MutBor (Storage P.Denot V.Denot (Trie V.Denot)) → Fml
+    → MutBor (Kind P.Denot V.Denot (Trie V.Denot)) → Fml
 lends_storage P V G node lent = Lends (the_row P V G) (storage_row P V (the_row P V G)) node lent
     (stored_node G.bytes)
 

@@ -1,6 +1,6 @@
 -- What the calls of a node leave of it.
 use Rattle.std.specs.Prelude.{ℕ, List, ◌==◌, if◌then◌else◌, nat_lt, length, Some}
-use Rattle.rart_trie.specs.declared.node.storage.Storage.{Storage}
+use Rattle.rart_trie.specs.declared.node.storage.Kind.{Kind}
 use Rattle.rart_trie.specs.storages.Capacities.{widened_capacity}
 use Rattle.rart_trie.specs.storages.Stored.{child_entries, storage_capacity, stored_prefix, stored_value}
 use Rattle.rart_trie.specs.tries.Trie.{Trie, node, Children, no_children, child, edges_of}
@@ -21,6 +21,6 @@ abbrev pub with_value : {V : Type 0} → V → Trie V → Trie V
 with_value x (node p v w cs) = node p (Some x) w cs
 
 -- the node over a storage
-abbrev pub stored_node : {P V : Type 0} → (P → List ℕ) → Storage P V (Trie V) → Trie V
+abbrev pub stored_node : {P V : Type 0} → (P → List ℕ) → Kind P V (Trie V) → Trie V
 stored_node bytes s = node (bytes (stored_prefix s)) (stored_value s) (storage_capacity s)
     (as_children (child_entries s))

@@ -4,7 +4,7 @@ use Rattle.std.specs.Prelude.{option_map, slice_get}
 use Rattle.std.specs.Borrow.{Bor, MutBor}
 use Rattle.std.specs.Fn.{Mut}
 use Rattle.rart_parts.specs.Entries.{entries_above, without_byte}
-use Rattle.rart_trie.specs.declared.node.storage.Storage.{Storage}
+use Rattle.rart_trie.specs.declared.node.storage.Kind.{Kind}
 use Rattle.rart_trie.specs.declared.node.edits.retain.Retention.{Retention}
 use Rattle.rart_trie.specs.declared.node.edits.retain.Retention.TheVariants.{Done, Rejected, Refused}
 use Rattle.rart_trie.specs.edits.Deletion.{merged_if_needed}
@@ -49,15 +49,15 @@ module _ {F V : Type 0} (call : Mut F (Bor (List ℕ) × (MutBor V × Unit {0}))
 
 -- The child at b was removed, and the capacity is that of the rest; value and prefix stay. A node without a value has
 -- another child.
-abbrev pub RemovesChild : {P V : Type 0} → Bool → ℕ → Storage P V (Trie V) → Storage P V (Trie V) → Type 0
+abbrev pub RemovesChild : {P V : Type 0} → Bool → ℕ → Kind P V (Trie V) → Kind P V (Trie V) → Type 0
 RemovesChild h b s s' = (child_entries s' ≡ without_byte b (child_entries s))
     × (storage_capacity s' ≡ capacity_without b s (length (child_entries s')))
     × ((h ≡ true) ⊎ (1 < length (child_entries s)))
     × (stored_value s' ≡ stored_value s) × (stored_prefix s' ≡ stored_prefix s)
 
 -- What is done with the child at b after a walk over it, at a node that holds a value or not, and what of the node.
-abbrev pub AppliesChild : {P V : Type 0} → Bool → ℕ → Retention → Retention → Storage P V (Trie V)
-    → Storage P V (Trie V) → Type 0
+abbrev pub AppliesChild : {P V : Type 0} → Bool → ℕ → Retention → Retention → Kind P V (Trie V)
+    → Kind P V (Trie V) → Type 0
 AppliesChild h b Done Done s s' = s' ≡ s
 AppliesChild h b Done Rejected s s' = ⊥
 AppliesChild h b Done Refused s s' = ⊥

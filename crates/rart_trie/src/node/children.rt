@@ -4,7 +4,7 @@ ghost use Rattle.std.specs.Iterator.{YieldsFirstBy, item_count};
 ghost use Rattle.rart_parts.specs.Entries.{BytesAscend};
 ghost use Rattle.rart_trie.specs.edits.Deletion.{JoinsWithin};
 ghost use Rattle.rart_trie.specs.ranges.Starts.{children_above};
-ghost use Rattle.rart_trie.specs.storages.ChildMaps.{map_capacity, map_entries};
+ghost use Rattle.rart_trie.specs.storages.ChildMaps.{IsKeyedMap, map_capacity, map_entries};
 ghost use Rattle.rart_trie.specs.tries.Trie.{capacity_in, children_in, prefix_of};
 ghost use Rattle.rart_trie.specs.tries.TrieCode.{as_children};
 
@@ -73,6 +73,7 @@ impl<P: Partial, V> DefaultNode<P, V> {
     pub fn child_map(&self) -> ChildMap<'_, V, Self>
         ensures children { as_children (map_entries result) ≡ children_in self.now }
         ensures capacity { map_capacity result ≡ capacity_in self.now }
+        ensures keyed { IsKeyedMap result }
     {
         self.storage.child_map()
     }

@@ -134,7 +134,7 @@ impl<P: Partial, V> Node<P, V> for DefaultNode<P, V> {
 
     fn new_leaf(prefix: P, value: V) -> Self {
         DefaultNode {
-            storage: Storage::Leaf(prefix, value),
+            storage: Storage::leaf(prefix, value),
         }
     }
 

@@ -5,10 +5,16 @@
 ghost use Rattle.std.specs.Prelude.{◌≡◌, ◌<◌, [], length, None};
 ghost use Rattle.std.specs.Option.{option_copied};
 ghost use Rattle.rart_parts.specs.Entries.{child_at, with_entry, without_byte};
+ghost use Rattle.rart_trie.specs.declared.node.storage.Kind.TheVariants.{Empty, Leaf};
+ghost use Rattle.rart_trie.specs.storages.Kinds.{IsFourPlace};
 ghost use Rattle.rart_trie.specs.storages.Stored.{child_entries, storage_capacity, stored_prefix, stored_value};
 
-use rart_maps::mapping::{DirectMapping, IndexedMapping, NodeMapping, SortedKeyedMapping};
+use rart_block::Block;
+use rart_maps::mapping::{
+    DirectMapping, FourKeys, IndexedMapping, NodeMapping, SortedKeyedMapping,
+};
 use rart_parts::utils::bitset::Bitset64;
+use std::marker::Model;
 
 pub(crate) mod child_map;
 mod ends;
@@ -24,13 +30,14 @@ pub(crate) mod walk;
 /// 256.
 // Each kind holds the prefix, so that a short prefix and the tag share a word.
 #[derive(Drop)]
-pub(crate) enum Storage<P, V, N> {
+pub(crate) enum Kind<P, V, N> {
     /// Neither a value nor a child. It is not allocated.
     Empty(P),
     /// A value and no child. It is not allocated.
     Leaf(P, V),
-    /// At most four children, by sorted keys.
-    Node4(P, SortedKeyedMapping<N, 4, Option<V>>),
+    /// At most four children, by sorted keys that lie beside the pointer to the children.
+    // The keys follow the prefix, which then lies at the same place in each kind.
+    Node4(P, FourKeys, Block<Option<V>, (), N, 4>),
     /// At most sixteen children, by sorted keys.
     Node16(P, SortedKeyedMapping<N, 16, Option<V>>),
     /// At most 48 children, with an index from bytes to slots.
@@ -39,7 +46,47 @@ pub(crate) enum Storage<P, V, N> {
     Node256(P, DirectMapping<N, Option<V>>),
 }
 
+/// The prefix, the value and the children of a node, by its kind. A contract reads it as the kind.
+#[derive(Drop)]
+pub(crate) struct Storage<P, V, N> {
+    // A variant can't say that each child has a key.
+    kind: Kind<P, V, N>,
+}
+
+impl<P, V, N> Model for Storage<P, V, N> {
+    ghost use Rattle.rart_trie.specs.declared.node.storage.Kind.{Kind};
+    ghost use Rattle.rart_trie.specs.storages.Kinds.{IsKeyed, kind_code};
+
+    ghost Value = { Kind P V N };
+
+    ghost coded = { kind_code P.code V.code N.code };
+
+    ghost view = { λ s. s.kind };
+
+    ghost invariant = { λ s. IsKeyed s.kind };
+}
+
 impl<P, V, N> Storage<P, V, N> {
+    /// Returns storage with neither a value nor a child. It does not allocate.
+    #[inline(always)]
+    pub(crate) fn empty(prefix: P) -> Self
+        ensures { result ≡ Empty prefix }
+    {
+        Storage {
+            kind: Kind::Empty(prefix),
+        }
+    }
+
+    /// Returns storage with a value and no child. It does not allocate.
+    #[inline(always)]
+    pub(crate) fn leaf(prefix: P, value: V) -> Self
+        ensures { result ≡ Leaf prefix value }
+    {
+        Storage {
+            kind: Kind::Leaf(prefix, value),
+        }
+    }
+
     /// Returns storage of capacity 0 that holds `value`. It does not allocate.
     pub(crate) fn childless(prefix: P, value: Option<V>) -> Self
         ensures entries { child_entries result ≡ [] }
@@ -48,8 +95,8 @@ impl<P, V, N> Storage<P, V, N> {
         ensures prefix { stored_prefix result ≡ prefix }
     {
         match value {
-            Some(value) => Storage::Leaf(prefix, value),
-            None => Storage::Empty(prefix),
+            Some(value) => Storage::leaf(prefix, value),
+            None => Storage::empty(prefix),
         }
     }
 
@@ -57,12 +104,12 @@ impl<P, V, N> Storage<P, V, N> {
     pub(crate) fn num_children(&self) -> usize
         ensures { result ≡ length (child_entries self.now) }
     {
-        match self {
-            Storage::Empty(_) | Storage::Leaf(_, _) => 0,
-            Storage::Node4(_, map) => map.num_children(),
-            Storage::Node16(_, map) => map.num_children(),
-            Storage::Node48(_, map) => map.num_children(),
-            Storage::Node256(_, map) => map.num_children(),
+        match &self.kind {
+            Kind::Empty(_) | Kind::Leaf(_, _) => 0,
+            Kind::Node4(_, keys, map) => keys.num_children(map),
+            Kind::Node16(_, map) => map.num_children(),
+            Kind::Node48(_, map) => map.num_children(),
+            Kind::Node256(_, map) => map.num_children(),
         }
     }
 
@@ -70,12 +117,12 @@ impl<P, V, N> Storage<P, V, N> {
     pub(crate) fn capacity(&self) -> usize
         ensures { result ≡ storage_capacity self.now }
     {
-        match self {
-            Storage::Empty(_) | Storage::Leaf(_, _) => 0,
-            Storage::Node4(_, _) => 4,
-            Storage::Node16(_, _) => 16,
-            Storage::Node48(_, _) => 48,
-            Storage::Node256(_, _) => 256,
+        match &self.kind {
+            Kind::Empty(_) | Kind::Leaf(_, _) => 0,
+            Kind::Node4(_, _, _) => 4,
+            Kind::Node16(_, _) => 16,
+            Kind::Node48(_, _) => 48,
+            Kind::Node256(_, _) => 256,
         }
     }
 
@@ -83,12 +130,27 @@ impl<P, V, N> Storage<P, V, N> {
     pub(crate) fn seek_child(&self, b: u8) -> Option<&N>
         ensures { option_copied result ≡ child_at b (child_entries self.now) }
     {
-        match self {
-            Storage::Empty(_) | Storage::Leaf(_, _) => None,
-            Storage::Node4(_, map) => map.seek_child(b),
-            Storage::Node16(_, map) => map.seek_child(b),
-            Storage::Node48(_, map) => map.seek_child(b),
-            Storage::Node256(_, map) => map.seek_child(b),
+        match &self.kind {
+            Kind::Empty(_) | Kind::Leaf(_, _) => None,
+            Kind::Node4(_, keys, map) => keys.seek_child(map, b),
+            Kind::Node16(_, map) => map.seek_child(b),
+            Kind::Node48(_, map) => map.seek_child(b),
+            Kind::Node256(_, map) => map.seek_child(b),
+        }
+    }
+
+    /// Returns the place of the child at byte `b` in a node of at most four children, and `None` in another kind.
+    #[inline(always)]
+    fn place_in_four(&self, b: u8) -> Option<usize>
+        ensures { IsFourPlace b self.now result }
+    {
+        match &self.kind {
+            Kind::Node4(_, keys, map) => keys.place_of(map, b),
+            Kind::Empty(_)
+            | Kind::Leaf(_, _)
+            | Kind::Node16(_, _)
+            | Kind::Node48(_, _)
+            | Kind::Node256(_, _) => None,
         }
     }
 
@@ -103,12 +165,12 @@ impl<P, V, N> Storage<P, V, N> {
         ensures value_kept { stored_value self.new ≡ stored_value self.old }
         ensures prefix_kept { stored_prefix self.new ≡ stored_prefix self.old }
     {
-        match self {
-            Storage::Empty(_) | Storage::Leaf(_, _) => unreachable!(),
-            Storage::Node4(_, map) => map.add_child(b, node),
-            Storage::Node16(_, map) => map.add_child(b, node),
-            Storage::Node48(_, map) => map.add_child(b, node),
-            Storage::Node256(_, map) => map.add_child(b, node),
+        match &mut self.kind {
+            Kind::Empty(_) | Kind::Leaf(_, _) => unreachable!(),
+            Kind::Node4(_, keys, map) => keys.add_child(map, b, node),
+            Kind::Node16(_, map) => map.add_child(b, node),
+            Kind::Node48(_, map) => map.add_child(b, node),
+            Kind::Node256(_, map) => map.add_child(b, node),
         }
     }
 
@@ -120,12 +182,12 @@ impl<P, V, N> Storage<P, V, N> {
         ensures value_kept { stored_value self.new ≡ stored_value self.old }
         ensures prefix_kept { stored_prefix self.new ≡ stored_prefix self.old }
     {
-        match self {
-            Storage::Empty(_) | Storage::Leaf(_, _) => None,
-            Storage::Node4(_, map) => map.delete_child(b),
-            Storage::Node16(_, map) => map.delete_child(b),
-            Storage::Node48(_, map) => map.delete_child(b),
-            Storage::Node256(_, map) => map.delete_child(b),
+        match &mut self.kind {
+            Kind::Empty(_) | Kind::Leaf(_, _) => None,
+            Kind::Node4(_, keys, map) => keys.delete_child(map, b),
+            Kind::Node16(_, map) => map.delete_child(b),
+            Kind::Node48(_, map) => map.delete_child(b),
+            Kind::Node256(_, map) => map.delete_child(b),
         }
     }
 }
@@ -136,6 +198,7 @@ impl<P, V, N> Storage<P, V, N> {
     ghost use Rattle.std.specs.Borrow.{sem};
     ghost use Rattle.rart_parts.specs.Entries.{child_at};
     ghost use Rattle.rart_trie.specs.storages.Lends.{lends_child};
+    ghost use Rattle.rart_trie.specs.declared.node.storage.Kind.TheVariants.{Empty, Leaf};
     ghost use Rattle.rart_trie.specs.storages.Stored.{child_entries};
 
     /// Returns a mutable borrow of the child at byte `b`.
@@ -145,12 +208,16 @@ impl<P, V, N> Storage<P, V, N> {
         ensures* writes_back { sem 𝓛 (lends_child P.row V.row N.row self.entry b result) }
         ensures value { option_copied_mut result ≡ child_at b (child_entries self.old) }
     {
-        match self {
-            Storage::Empty(_) | Storage::Leaf(_, _) => None,
-            Storage::Node4(_, map) => map.seek_child_mut(b),
-            Storage::Node16(_, map) => map.seek_child_mut(b),
-            Storage::Node48(_, map) => map.seek_child_mut(b),
-            Storage::Node256(_, map) => map.seek_child_mut(b),
+        let at = self.place_in_four(b);
+        match &mut self.kind {
+            Kind::Empty(_) | Kind::Leaf(_, _) => None,
+            Kind::Node4(_, _, map) => match at {
+                Some(at) => Some(map.item_mut(at)),
+                None => None,
+            },
+            Kind::Node16(_, map) => map.seek_child_mut(b),
+            Kind::Node48(_, map) => map.seek_child_mut(b),
+            Kind::Node256(_, map) => map.seek_child_mut(b),
         }
     }
 }

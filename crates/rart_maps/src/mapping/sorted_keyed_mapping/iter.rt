@@ -11,8 +11,8 @@ use std::marker::Model;
 #[derive(Drop)]
 pub struct SortedKeyedMappingIter<'a, N> {
     // The keys past the children do not count.
-    pub(super) keys: &'a [u8],
-    pub(super) children: &'a [N],
+    pub(in crate::mapping) keys: &'a [u8],
+    pub(in crate::mapping) children: &'a [N],
 }
 
 impl<'a, N> Model for SortedKeyedMappingIter<'a, N> {

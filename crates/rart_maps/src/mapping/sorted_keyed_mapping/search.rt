@@ -8,7 +8,11 @@ use rart_parts::utils::u8_keys::keys_are_bytes;
 
 /// Returns the place of a key among the first `count`, which ascend, where the others are 255.
 #[inline(always)]
-pub(super) fn place_of<const W: usize>(key: u8, keys: &[u8; W], count: usize) -> Option<usize>
+pub(in crate::mapping) fn place_of<const W: usize>(
+    key: u8,
+    keys: &[u8; W],
+    count: usize,
+) -> Option<usize>
     requires at_most { count ≤ W }
     requires ascending { IsAscendingBelow keys.now count }
     requires padded { IsPadded keys.now count W }
@@ -24,7 +28,7 @@ pub(super) fn place_of<const W: usize>(key: u8, keys: &[u8; W], count: usize) ->
 
 /// Returns whether no key of the first `count`, which ascend, is above `key`.
 #[inline(always)]
-pub(super) fn goes_last<const W: usize>(key: u8, keys: &[u8; W], count: usize) -> bool
+pub(in crate::mapping) fn goes_last<const W: usize>(key: u8, keys: &[u8; W], count: usize) -> bool
     requires at_most { count ≤ W }
     requires ascending { IsAscendingBelow keys.now count }
     ensures { IsTrue result ↔ IsFirstAbove keys.now count key count }
@@ -35,7 +39,11 @@ pub(super) fn goes_last<const W: usize>(key: u8, keys: &[u8; W], count: usize) -
 /// Returns the first place among the first `count` keys, which ascend, whose key is above; `count` where there is none.
 // The other keys are 255, so it is found without a branch: as many keys of all are not above.
 #[inline(always)]
-pub(super) fn first_above<const W: usize>(key: u8, keys: &[u8; W], count: usize) -> usize
+pub(in crate::mapping) fn first_above<const W: usize>(
+    key: u8,
+    keys: &[u8; W],
+    count: usize,
+) -> usize
     requires at_most { count ≤ W }
     requires ascending { IsAscendingBelow keys.now count }
     requires padded { IsPadded keys.now count W }
@@ -54,7 +62,7 @@ pub(super) fn first_above<const W: usize>(key: u8, keys: &[u8; W], count: usize)
 /// Returns the first place among the first `count` keys, which ascend, whose key is not below `above`; `count` where
 /// there is none. No key is at or above `None`.
 #[inline(always)]
-pub(super) fn first_not_below<const W: usize>(
+pub(in crate::mapping) fn first_not_below<const W: usize>(
     above: Option<u8>,
     keys: &[u8; W],
     count: usize,

@@ -143,7 +143,7 @@ impl<V, N> Storage<(), V, N> {
         ensures memory { IfErr result IsMemory }
     {
         if count == 0 {
-            Ok(Storage::Empty(()))
+            Ok(Storage::empty(()))
         } else if count <= 4 {
             Storage::new_4(alloc, ())
         } else if count <= 16 {

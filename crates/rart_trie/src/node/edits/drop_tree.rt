@@ -44,5 +44,5 @@ fn drop_leaves<P: Partial, V: Drop>(storage: &mut Storage<P, V, DefaultNode<P, V
     ensures capacity { storage_capacity storage.new ≡ 0 }
     ensures value { stored_value storage.new ≡ None }
 {
-    *storage = Storage::Empty(P::from_slice(&[]));
+    *storage = Storage::empty(P::from_slice(&[]));
 }

@@ -3,7 +3,7 @@ ghost use Rattle.std.specs.Prelude.{◌≡◌, None, option_map, slice_get};
 ghost use Rattle.rart_keys.specs.Filters.{last_or};
 ghost use Rattle.rart_trie.specs.storages.Stored.{child_entries};
 
-use crate::node::storage::Storage;
+use crate::node::storage::{Kind, Storage};
 
 impl<P, V, N> Storage<P, V, N> {
     /// Returns the child at the least byte, with that byte.
@@ -17,12 +17,12 @@ impl<P, V, N> Storage<P, V, N> {
     pub(crate) fn last_child(&self) -> Option<(u8, &N)>
         ensures { option_map (λ e. (e.0, e.1.now)) result ≡ last_or None (child_entries self.now) }
     {
-        match self {
-            Storage::Empty(_) | Storage::Leaf(_, _) => None,
-            Storage::Node4(_, map) => map.last_under(None),
-            Storage::Node16(_, map) => map.last_under(None),
-            Storage::Node48(_, map) => map.last_under(None),
-            Storage::Node256(_, map) => map.last_under(None),
+        match &self.kind {
+            Kind::Empty(_) | Kind::Leaf(_, _) => None,
+            Kind::Node4(_, keys, map) => keys.last_under(map, None),
+            Kind::Node16(_, map) => map.last_under(None),
+            Kind::Node48(_, map) => map.last_under(None),
+            Kind::Node256(_, map) => map.last_under(None),
         }
     }
 }

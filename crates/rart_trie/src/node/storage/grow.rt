@@ -6,10 +6,13 @@ ghost use Rattle.rart_trie.specs.storages.Capacities.{widened_capacity};
 ghost use Rattle.rart_trie.specs.storages.Stored.{child_entries, storage_capacity, stored_prefix, stored_value};
 
 use crate::node::fill::fill;
-use crate::node::storage::Storage;
 use crate::node::storage::prefix::take_prefix;
+use crate::node::storage::{Kind, Storage};
+use rart_block::Block;
 use rart_keys::Partial;
-use rart_maps::mapping::{DirectMapping, IndexedMapping, NodeMapping, SortedKeyedMapping};
+use rart_maps::mapping::{
+    DirectMapping, FourKeys, IndexedMapping, NodeMapping, SortedKeyedMapping,
+};
 use rart_parts::utils::bitset::Bitset64;
 use rart_parts::{TreeError, laws};
 use std::alloc::Global;
@@ -27,6 +30,20 @@ pub(super) fn new_sorted<V, N, const W: usize>(
     match SortedKeyedMapping::with_extra(alloc, None) {
         Ok(map) => Ok(map),
         Err(value) => match value {
+            None => Err(TreeError::Memory),
+            Some(_) => unreachable!(),
+        },
+    }
+}
+
+/// Returns a block for four children, with no child and no value.
+pub(super) fn new_block<V, N>(alloc: Global) -> Result<Block<Option<V>, (), N, 4>, TreeError>
+    ensures ok { IfOk result (λ b. (b.items ≡ []) × (b.head ≡ None)) }
+    ensures memory { IfErr result IsMemory }
+{
+    match Block::new(alloc, None, ()) {
+        Ok(block) => Ok(block),
+        Err((value, ())) => match value {
             None => Err(TreeError::Memory),
             Some(_) => unreachable!(),
         },
@@ -74,7 +91,8 @@ impl<P: Drop, V, N> Storage<P, V, N> {
         ensures prefix { IfOk result (λ s. stored_prefix s ≡ prefix) }
         ensures memory { IfErr result IsMemory }
     {
-        Ok(Storage::Node4(prefix, new_sorted(alloc)?))
+        let kind = Kind::Node4(prefix, FourKeys::none(), new_block(alloc)?);
+        Ok(Storage { kind })
     }
 
     /// Returns empty storage of capacity 16 with this prefix.
@@ -85,7 +103,8 @@ impl<P: Drop, V, N> Storage<P, V, N> {
         ensures prefix { IfOk result (λ s. stored_prefix s ≡ prefix) }
         ensures memory { IfErr result IsMemory }
     {
-        Ok(Storage::Node16(prefix, new_sorted(alloc)?))
+        let kind = Kind::Node16(prefix, new_sorted(alloc)?);
+        Ok(Storage { kind })
     }
 
     /// Returns empty storage of capacity 48 with this prefix.
@@ -96,7 +115,8 @@ impl<P: Drop, V, N> Storage<P, V, N> {
         ensures prefix { IfOk result (λ s. stored_prefix s ≡ prefix) }
         ensures memory { IfErr result IsMemory }
     {
-        Ok(Storage::Node48(prefix, new_indexed(alloc)?))
+        let kind = Kind::Node48(prefix, new_indexed(alloc)?);
+        Ok(Storage { kind })
     }
 
     /// Returns empty storage of capacity 256 with this prefix.
@@ -107,7 +127,8 @@ impl<P: Drop, V, N> Storage<P, V, N> {
         ensures prefix { IfOk result (λ s. stored_prefix s ≡ prefix) }
         ensures memory { IfErr result IsMemory }
     {
-        Ok(Storage::Node256(prefix, new_direct(alloc)?))
+        let kind = Kind::Node256(prefix, new_direct(alloc)?);
+        Ok(Storage { kind })
     }
 }
 
@@ -122,12 +143,12 @@ impl<P: Partial, V, N> Storage<P, V, N> {
         ensures not_widest { result ≡ false → storage_capacity self.now < 256 }
     {
         laws::free_byte::<N>();
-        match self {
-            Storage::Empty(_) | Storage::Leaf(_, _) => false,
-            Storage::Node4(_, map) => map.num_children() < 4,
-            Storage::Node16(_, map) => map.num_children() < 16,
-            Storage::Node48(_, map) => map.num_children() < 48,
-            Storage::Node256(_, map) => map.num_children() < 256,
+        match &self.kind {
+            Kind::Empty(_) | Kind::Leaf(_, _) => false,
+            Kind::Node4(_, keys, map) => keys.num_children(map) < 4,
+            Kind::Node16(_, map) => map.num_children() < 16,
+            Kind::Node48(_, map) => map.num_children() < 48,
+            Kind::Node256(_, map) => map.num_children() < 256,
         }
     }
 
@@ -167,40 +188,41 @@ impl<P: Partial, V, N> Storage<P, V, N> {
         if self.has_free_slot(b) {
             return Ok(());
         }
-        match self {
-            Storage::Empty(prefix) => {
-                let next = new_sorted(alloc)?;
-                let prefix = take_prefix(prefix);
-                self.replace_empty(Storage::Node4(prefix, next));
+        match &mut self.kind {
+            Kind::Empty(prefix) => {
+                let next = new_block(alloc)?;
+                let kind = Kind::Node4(take_prefix(prefix), FourKeys::none(), next);
+                self.replace_empty(Storage { kind });
             }
-            Storage::Leaf(prefix, _) => {
+            Kind::Leaf(prefix, _) => {
+                let mut next = new_block(alloc)?;
+                let prefix = take_prefix(prefix);
+                fill(next.head_mut(), self.take_value());
+                let kind = Kind::Node4(prefix, FourKeys::none(), next);
+                self.replace_empty(Storage { kind });
+            }
+            Kind::Node4(prefix, keys, map) => {
                 let mut next = new_sorted(alloc)?;
-                let prefix = take_prefix(prefix);
-                fill(next.extra_mut(), self.take_value());
-                self.replace_empty(Storage::Node4(prefix, next));
+                keys.move_to_sorted(map, &mut next);
+                fill(next.extra_mut(), map.head_mut().take());
+                let kind = Kind::Node16(take_prefix(prefix), next);
+                self.replace_empty(Storage { kind });
             }
-            Storage::Node4(prefix, map) => {
-                let mut next = new_sorted(alloc)?;
-                next.fill_from_resized(map);
-                fill(next.extra_mut(), map.extra_mut().take());
-                let prefix = take_prefix(prefix);
-                self.replace_empty(Storage::Node16(prefix, next));
-            }
-            Storage::Node16(prefix, map) => {
+            Kind::Node16(prefix, map) => {
                 let mut next = new_indexed(alloc)?;
                 next.fill_from_sorted_keyed(map);
                 fill(next.extra_mut(), map.extra_mut().take());
-                let prefix = take_prefix(prefix);
-                self.replace_empty(Storage::Node48(prefix, next));
+                let kind = Kind::Node48(take_prefix(prefix), next);
+                self.replace_empty(Storage { kind });
             }
-            Storage::Node48(prefix, map) => {
+            Kind::Node48(prefix, map) => {
                 let mut next = new_direct(alloc)?;
                 next.fill_from_indexed(map);
                 fill(next.extra_mut(), map.extra_mut().take());
-                let prefix = take_prefix(prefix);
-                self.replace_empty(Storage::Node256(prefix, next));
+                let kind = Kind::Node256(take_prefix(prefix), next);
+                self.replace_empty(Storage { kind });
             }
-            Storage::Node256(_, _) => unreachable!(),
+            Kind::Node256(_, _) => unreachable!(),
         }
         Ok(())
     }

@@ -4,7 +4,7 @@ ghost use Rattle.rart_keys.specs.Filters.{last_or};
 ghost use Rattle.rart_trie.specs.ranges.Under.{entries_under};
 ghost use Rattle.rart_trie.specs.storages.Stored.{child_entries};
 
-use crate::node::storage::Storage;
+use crate::node::storage::{Kind, Storage};
 
 impl<P, V, N> Storage<P, V, N> {
     /// Returns the child at the greatest byte under `byte`, with its byte.
@@ -12,12 +12,12 @@ impl<P, V, N> Storage<P, V, N> {
         ensures { option_map (λ e. (e.0, e.1.now)) result
             ≡ last_or None (entries_under byte (child_entries self.now)) }
     {
-        match self {
-            Storage::Empty(_) | Storage::Leaf(_, _) => None,
-            Storage::Node4(_, map) => map.last_under(Some(byte)),
-            Storage::Node16(_, map) => map.last_under(Some(byte)),
-            Storage::Node48(_, map) => map.last_under(Some(byte)),
-            Storage::Node256(_, map) => map.last_under(Some(byte)),
+        match &self.kind {
+            Kind::Empty(_) | Kind::Leaf(_, _) => None,
+            Kind::Node4(_, keys, map) => keys.last_under(map, Some(byte)),
+            Kind::Node16(_, map) => map.last_under(Some(byte)),
+            Kind::Node48(_, map) => map.last_under(Some(byte)),
+            Kind::Node256(_, map) => map.last_under(Some(byte)),
         }
     }
 }

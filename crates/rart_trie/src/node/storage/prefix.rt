@@ -6,7 +6,7 @@ ghost use Rattle.rart_trie.specs.storages.Stored.{HasPrefixSo, child_entries, st
 ghost use Rattle.rart_trie.specs.storages.Stored.{stored_value};
 
 use crate::node::rest::strip_prefix;
-use crate::node::storage::Storage;
+use crate::node::storage::{Kind, Storage};
 use rart_keys::Partial;
 use std::mem;
 
@@ -17,13 +17,13 @@ impl<P, V, N> Storage<P, V, N> {
     pub(crate) fn prefix(&self) -> &P
         ensures { result.now ≡ stored_prefix self.now }
     {
-        match self {
-            Storage::Empty(prefix) => prefix,
-            Storage::Leaf(prefix, _) => prefix,
-            Storage::Node4(prefix, _) => prefix,
-            Storage::Node16(prefix, _) => prefix,
-            Storage::Node48(prefix, _) => prefix,
-            Storage::Node256(prefix, _) => prefix,
+        match &self.kind {
+            Kind::Empty(prefix) => prefix,
+            Kind::Leaf(prefix, _) => prefix,
+            Kind::Node4(prefix, _, _) => prefix,
+            Kind::Node16(prefix, _) => prefix,
+            Kind::Node48(prefix, _) => prefix,
+            Kind::Node256(prefix, _) => prefix,
         }
     }
 }
@@ -41,13 +41,13 @@ impl<P: Partial, V, N> Storage<P, V, N> {
     pub(crate) fn set_prefix(&mut self, prefix: P)
         ensures { HasPrefixSo self.old prefix self.new }
     {
-        match self {
-            Storage::Empty(place) => *place = prefix,
-            Storage::Leaf(place, _) => *place = prefix,
-            Storage::Node4(place, _) => *place = prefix,
-            Storage::Node16(place, _) => *place = prefix,
-            Storage::Node48(place, _) => *place = prefix,
-            Storage::Node256(place, _) => *place = prefix,
+        match &mut self.kind {
+            Kind::Empty(place) => *place = prefix,
+            Kind::Leaf(place, _) => *place = prefix,
+            Kind::Node4(place, _, _) => *place = prefix,
+            Kind::Node16(place, _) => *place = prefix,
+            Kind::Node48(place, _) => *place = prefix,
+            Kind::Node256(place, _) => *place = prefix,
         }
     }
 }
@@ -60,14 +60,15 @@ impl<V, N> Storage<(), V, N> {
         ensures value { stored_value result ≡ stored_value self }
         ensures prefix { stored_prefix result ≡ prefix }
     {
-        match self {
-            Storage::Empty(()) => Storage::Empty(prefix),
-            Storage::Leaf((), value) => Storage::Leaf(prefix, value),
-            Storage::Node4((), map) => Storage::Node4(prefix, map),
-            Storage::Node16((), map) => Storage::Node16(prefix, map),
-            Storage::Node48((), map) => Storage::Node48(prefix, map),
-            Storage::Node256((), map) => Storage::Node256(prefix, map),
-        }
+        let kind = match self.kind {
+            Kind::Empty(()) => Kind::Empty(prefix),
+            Kind::Leaf((), value) => Kind::Leaf(prefix, value),
+            Kind::Node4((), keys, map) => Kind::Node4(prefix, keys, map),
+            Kind::Node16((), map) => Kind::Node16(prefix, map),
+            Kind::Node48((), map) => Kind::Node48(prefix, map),
+            Kind::Node256((), map) => Kind::Node256(prefix, map),
+        };
+        Storage { kind }
     }
 }
 

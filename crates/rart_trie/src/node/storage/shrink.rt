@@ -8,11 +8,11 @@ ghost use Rattle.rart_trie.specs.storages.Stored.{ShrinksStored, child_entries, 
 ghost use Rattle.rart_trie.specs.storages.Stored.{stored_prefix, stored_value};
 
 use crate::node::fill::fill;
-use crate::node::storage::Storage;
-use crate::node::storage::grow::{new_indexed, new_sorted};
+use crate::node::storage::grow::{new_block, new_indexed, new_sorted};
 use crate::node::storage::prefix::take_prefix;
+use crate::node::storage::{Kind, Storage};
 use rart_keys::Partial;
-use rart_maps::mapping::NodeMapping;
+use rart_maps::mapping::{FourKeys, NodeMapping};
 use rart_parts::TreeError;
 use std::alloc::Global;
 
@@ -22,12 +22,12 @@ impl<P: Partial, V, N> Storage<P, V, N> {
     fn last_count(&self) -> usize
         ensures { result ≡ previous_capacity (storage_capacity self.now) + 1 }
     {
-        match self {
-            Storage::Empty(_) | Storage::Leaf(_, _) => 1,
-            Storage::Node4(_, _) => 1,
-            Storage::Node16(_, _) => 5,
-            Storage::Node48(_, _) => 17,
-            Storage::Node256(_, _) => 49,
+        match &self.kind {
+            Kind::Empty(_) | Kind::Leaf(_, _) => 1,
+            Kind::Node4(_, _, _) => 1,
+            Kind::Node16(_, _) => 5,
+            Kind::Node48(_, _) => 17,
+            Kind::Node256(_, _) => 49,
         }
     }
 
@@ -63,40 +63,41 @@ impl<P: Partial, V, N> Storage<P, V, N> {
         if self.keeps_kind(b) {
             return Ok(self.delete_within(b));
         }
-        match self {
-            Storage::Empty(_) | Storage::Leaf(_, _) => Ok(None),
-            Storage::Node4(prefix, map) => {
-                let child = map.delete_child(b);
-                let value = map.extra_mut().take();
+        match &mut self.kind {
+            Kind::Empty(_) | Kind::Leaf(_, _) => Ok(None),
+            Kind::Node4(prefix, keys, map) => {
+                let child = keys.delete_child(map, b);
+                let value = map.head_mut().take();
                 let prefix = take_prefix(prefix);
                 self.replace_empty(Storage::childless(prefix, value));
                 Ok(child)
             }
-            Storage::Node16(prefix, map) => {
-                let mut next = new_sorted(alloc)?;
+            Kind::Node16(prefix, map) => {
+                let mut next = new_block(alloc)?;
+                let mut keys = FourKeys::none();
                 let child = map.delete_child(b);
-                next.fill_from_resized(map);
-                fill(next.extra_mut(), map.extra_mut().take());
-                let prefix = take_prefix(prefix);
-                self.replace_empty(Storage::Node4(prefix, next));
+                keys.fill_from_sorted(&mut next, map);
+                fill(next.head_mut(), map.extra_mut().take());
+                let kind = Kind::Node4(take_prefix(prefix), keys, next);
+                self.replace_empty(Storage { kind });
                 Ok(child)
             }
-            Storage::Node48(prefix, map) => {
+            Kind::Node48(prefix, map) => {
                 let mut next = new_sorted(alloc)?;
                 let child = map.delete_child(b);
                 next.fill_from_indexed(map);
                 fill(next.extra_mut(), map.extra_mut().take());
-                let prefix = take_prefix(prefix);
-                self.replace_empty(Storage::Node16(prefix, next));
+                let kind = Kind::Node16(take_prefix(prefix), next);
+                self.replace_empty(Storage { kind });
                 Ok(child)
             }
-            Storage::Node256(prefix, map) => {
+            Kind::Node256(prefix, map) => {
                 let mut next = new_indexed(alloc)?;
                 let child = map.delete_child(b);
                 next.fill_from_direct(map);
                 fill(next.extra_mut(), map.extra_mut().take());
-                let prefix = take_prefix(prefix);
-                self.replace_empty(Storage::Node48(prefix, next));
+                let kind = Kind::Node48(take_prefix(prefix), next);
+                self.replace_empty(Storage { kind });
                 Ok(child)
             }
         }
@@ -112,13 +113,13 @@ impl<P: Partial, V, N> Storage<P, V, N> {
         ensures value_kept { stored_value self.new ≡ stored_value self.old }
         ensures prefix_kept { stored_prefix self.new ≡ stored_prefix self.old }
     {
-        match self {
-            Storage::Node4(_, map) => map.take_value_for_leaf(),
-            Storage::Empty(_)
-            | Storage::Leaf(_, _)
-            | Storage::Node16(_, _)
-            | Storage::Node48(_, _)
-            | Storage::Node256(_, _) => unreachable!(),
+        match &mut self.kind {
+            Kind::Node4(_, keys, map) => keys.take_only_child(map),
+            Kind::Empty(_)
+            | Kind::Leaf(_, _)
+            | Kind::Node16(_, _)
+            | Kind::Node48(_, _)
+            | Kind::Node256(_, _) => unreachable!(),
         }
     }
 }

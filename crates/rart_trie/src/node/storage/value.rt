@@ -6,8 +6,8 @@ ghost use Rattle.rart_trie.specs.storages.Lends.{lends_value};
 ghost use Rattle.rart_trie.specs.storages.Stored.{HoldsSo, child_entries, stored_value};
 
 use crate::node::fill::fill;
-use crate::node::storage::Storage;
 use crate::node::storage::prefix::take_prefix;
+use crate::node::storage::{Kind, Storage};
 use rart_keys::Partial;
 use std::mem;
 
@@ -16,13 +16,13 @@ impl<P, V, N> Storage<P, V, N> {
     pub(crate) fn value(&self) -> Option<&V>
         ensures { option_copied result ≡ stored_value self.now }
     {
-        match self {
-            Storage::Empty(_) => None,
-            Storage::Leaf(_, value) => Some(value),
-            Storage::Node4(_, map) => map.extra().as_ref(),
-            Storage::Node16(_, map) => map.extra().as_ref(),
-            Storage::Node48(_, map) => map.extra().as_ref(),
-            Storage::Node256(_, map) => map.extra().as_ref(),
+        match &self.kind {
+            Kind::Empty(_) => None,
+            Kind::Leaf(_, value) => Some(value),
+            Kind::Node4(_, _, map) => map.head().as_ref(),
+            Kind::Node16(_, map) => map.extra().as_ref(),
+            Kind::Node48(_, map) => map.extra().as_ref(),
+            Kind::Node256(_, map) => map.extra().as_ref(),
         }
     }
 
@@ -30,13 +30,13 @@ impl<P, V, N> Storage<P, V, N> {
     pub(crate) fn has_value(&self) -> bool
         ensures { result ≡ is_some (stored_value self.now) }
     {
-        match self {
-            Storage::Empty(_) => false,
-            Storage::Leaf(_, _) => true,
-            Storage::Node4(_, map) => map.extra().is_some(),
-            Storage::Node16(_, map) => map.extra().is_some(),
-            Storage::Node48(_, map) => map.extra().is_some(),
-            Storage::Node256(_, map) => map.extra().is_some(),
+        match &self.kind {
+            Kind::Empty(_) => false,
+            Kind::Leaf(_, _) => true,
+            Kind::Node4(_, _, map) => map.head().is_some(),
+            Kind::Node16(_, map) => map.extra().is_some(),
+            Kind::Node48(_, map) => map.extra().is_some(),
+            Kind::Node256(_, map) => map.extra().is_some(),
         }
     }
 
@@ -45,22 +45,22 @@ impl<P, V, N> Storage<P, V, N> {
         ensures* writes_back { sem 𝓛 (lends_value P.row V.row N.row self.entry result) }
         ensures value { option_copied_mut result ≡ stored_value self.old }
     {
-        match self {
-            Storage::Empty(_) => None,
-            Storage::Leaf(_, value) => Some(value),
-            Storage::Node4(_, map) => match map.extra_mut() {
+        match &mut self.kind {
+            Kind::Empty(_) => None,
+            Kind::Leaf(_, value) => Some(value),
+            Kind::Node4(_, _, map) => match map.head_mut() {
                 Some(value) => Some(value),
                 None => None,
             },
-            Storage::Node16(_, map) => match map.extra_mut() {
+            Kind::Node16(_, map) => match map.extra_mut() {
                 Some(value) => Some(value),
                 None => None,
             },
-            Storage::Node48(_, map) => match map.extra_mut() {
+            Kind::Node48(_, map) => match map.extra_mut() {
                 Some(value) => Some(value),
                 None => None,
             },
-            Storage::Node256(_, map) => match map.extra_mut() {
+            Kind::Node256(_, map) => match map.extra_mut() {
                 Some(value) => Some(value),
                 None => None,
             },
@@ -74,16 +74,16 @@ impl<P: Partial, V, N> Storage<P, V, N> {
         ensures taken { result ≡ stored_value self.old }
         ensures stored { HoldsSo self.old (Some value) self.new }
     {
-        match self {
-            Storage::Empty(prefix) => {
+        match &mut self.kind {
+            Kind::Empty(prefix) => {
                 let prefix = take_prefix(prefix);
-                mem::replace(self, Storage::Leaf(prefix, value)).into_value()
+                mem::replace(self, Storage::leaf(prefix, value)).into_value()
             }
-            Storage::Leaf(_, old) => Some(mem::replace(old, value)),
-            Storage::Node4(_, map) => map.extra_mut().replace(value),
-            Storage::Node16(_, map) => map.extra_mut().replace(value),
-            Storage::Node48(_, map) => map.extra_mut().replace(value),
-            Storage::Node256(_, map) => map.extra_mut().replace(value),
+            Kind::Leaf(_, old) => Some(mem::replace(old, value)),
+            Kind::Node4(_, _, map) => map.head_mut().replace(value),
+            Kind::Node16(_, map) => map.extra_mut().replace(value),
+            Kind::Node48(_, map) => map.extra_mut().replace(value),
+            Kind::Node256(_, map) => map.extra_mut().replace(value),
         }
     }
 
@@ -103,16 +103,16 @@ impl<P: Partial, V, N> Storage<P, V, N> {
         ensures taken { result ≡ stored_value self.old }
         ensures emptied { HoldsSo self.old None self.new }
     {
-        match self {
-            Storage::Empty(_) => None,
-            Storage::Leaf(prefix, _) => {
+        match &mut self.kind {
+            Kind::Empty(_) => None,
+            Kind::Leaf(prefix, _) => {
                 let prefix = take_prefix(prefix);
-                mem::replace(self, Storage::Empty(prefix)).into_value()
+                mem::replace(self, Storage::empty(prefix)).into_value()
             }
-            Storage::Node4(_, map) => map.extra_mut().take(),
-            Storage::Node16(_, map) => map.extra_mut().take(),
-            Storage::Node48(_, map) => map.extra_mut().take(),
-            Storage::Node256(_, map) => map.extra_mut().take(),
+            Kind::Node4(_, _, map) => map.head_mut().take(),
+            Kind::Node16(_, map) => map.extra_mut().take(),
+            Kind::Node48(_, map) => map.extra_mut().take(),
+            Kind::Node256(_, map) => map.extra_mut().take(),
         }
     }
 
@@ -121,13 +121,13 @@ impl<P: Partial, V, N> Storage<P, V, N> {
         requires { child_entries self ≡ [] }
         ensures { result ≡ stored_value self }
     {
-        match self {
-            Storage::Empty(_) => None,
-            Storage::Leaf(_, value) => Some(value),
-            Storage::Node4(_, map) => map.destroy_empty(),
-            Storage::Node16(_, map) => map.destroy_empty(),
-            Storage::Node48(_, map) => map.destroy_empty(),
-            Storage::Node256(_, map) => map.destroy_empty(),
+        match self.kind {
+            Kind::Empty(_) => None,
+            Kind::Leaf(_, value) => Some(value),
+            Kind::Node4(_, keys, map) => keys.destroy_empty(map),
+            Kind::Node16(_, map) => map.destroy_empty(),
+            Kind::Node48(_, map) => map.destroy_empty(),
+            Kind::Node256(_, map) => map.destroy_empty(),
         }
     }
 }
@@ -138,29 +138,30 @@ impl<V, N> Storage<(), V, N> {
         requires { stored_value self ≡ None }
         ensures { HoldsSo self (Some value) result }
     {
-        match self {
-            Storage::Empty(()) => Storage::Leaf((), value),
-            Storage::Leaf((), _) => unreachable!(),
-            Storage::Node4((), map) => {
+        let kind = match self.kind {
+            Kind::Empty(()) => Kind::Leaf((), value),
+            Kind::Leaf((), _) => unreachable!(),
+            Kind::Node4((), keys, map) => {
+                let mut map = map;
+                fill(map.head_mut(), Some(value));
+                Kind::Node4((), keys, map)
+            }
+            Kind::Node16((), map) => {
                 let mut map = map;
                 fill(map.extra_mut(), Some(value));
-                Storage::Node4((), map)
+                Kind::Node16((), map)
             }
-            Storage::Node16((), map) => {
+            Kind::Node48((), map) => {
                 let mut map = map;
                 fill(map.extra_mut(), Some(value));
-                Storage::Node16((), map)
+                Kind::Node48((), map)
             }
-            Storage::Node48((), map) => {
+            Kind::Node256((), map) => {
                 let mut map = map;
                 fill(map.extra_mut(), Some(value));
-                Storage::Node48((), map)
+                Kind::Node256((), map)
             }
-            Storage::Node256((), map) => {
-                let mut map = map;
-                fill(map.extra_mut(), Some(value));
-                Storage::Node256((), map)
-            }
-        }
+        };
+        Storage { kind }
     }
 }

@@ -5,7 +5,7 @@ ghost use Rattle.rart_parts.specs.Entries.{BytesAscend, entries_above};
 ghost use Rattle.rart_trie.specs.storages.Stored.{child_entries};
 ghost use Rattle.rart_trie.specs.walks.Walks.{to_come};
 
-use crate::node::storage::Storage;
+use crate::node::storage::{Kind, Storage};
 use rart_maps::mapping::direct_mapping::DirectMappingIter;
 use rart_maps::mapping::indexed_mapping::IndexedMappingIter;
 use rart_maps::mapping::sorted_keyed_mapping::SortedKeyedMappingIter;
@@ -45,12 +45,12 @@ impl<P, V, N> Storage<P, V, N> {
         ensures entries { to_come result ≡ child_entries self.now }
         ensures ascending { BytesAscend (child_entries self.now) }
     {
-        match self {
-            Storage::Empty(_) | Storage::Leaf(_, _) => StorageIter::Childless,
-            Storage::Node4(_, map) => StorageIter::Sorted(map.iter()),
-            Storage::Node16(_, map) => StorageIter::Sorted(map.iter()),
-            Storage::Node48(_, map) => StorageIter::Indexed(map.iter()),
-            Storage::Node256(_, map) => StorageIter::Direct(map.iter()),
+        match &self.kind {
+            Kind::Empty(_) | Kind::Leaf(_, _) => StorageIter::Childless,
+            Kind::Node4(_, keys, map) => StorageIter::Sorted(keys.iter(map)),
+            Kind::Node16(_, map) => StorageIter::Sorted(map.iter()),
+            Kind::Node48(_, map) => StorageIter::Indexed(map.iter()),
+            Kind::Node256(_, map) => StorageIter::Direct(map.iter()),
         }
     }
 
@@ -59,12 +59,12 @@ impl<P, V, N> Storage<P, V, N> {
         ensures entries { to_come result ≡ entries_above byte (child_entries self.now) }
         ensures ascending { BytesAscend (entries_above byte (child_entries self.now)) }
     {
-        match self {
-            Storage::Empty(_) | Storage::Leaf(_, _) => StorageIter::Childless,
-            Storage::Node4(_, map) => StorageIter::Sorted(map.iter_above(byte)),
-            Storage::Node16(_, map) => StorageIter::Sorted(map.iter_above(byte)),
-            Storage::Node48(_, map) => StorageIter::Indexed(map.iter_above(byte)),
-            Storage::Node256(_, map) => StorageIter::Direct(map.iter_above(byte)),
+        match &self.kind {
+            Kind::Empty(_) | Kind::Leaf(_, _) => StorageIter::Childless,
+            Kind::Node4(_, keys, map) => StorageIter::Sorted(keys.iter_above(map, byte)),
+            Kind::Node16(_, map) => StorageIter::Sorted(map.iter_above(byte)),
+            Kind::Node48(_, map) => StorageIter::Indexed(map.iter_above(byte)),
+            Kind::Node256(_, map) => StorageIter::Direct(map.iter_above(byte)),
         }
     }
 

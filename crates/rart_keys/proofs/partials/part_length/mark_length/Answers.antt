@@ -7,7 +7,7 @@ use Rattle.rart_keys.proofs.partials.part_length.mark_length.Goals as goal
 
 pub returns-clause-length : goal.returns-clause-length
 returns-clause-length g c =
-    let wide : nat_le g.row.SIZE 4294967295 ≡ false = lt-leb g.row.SIZE 4294967295 (omega arith) in
+    let wide : nat_le g.row.SIZE 65535 ≡ false = lt-leb g.row.SIZE 65535 (omega arith) in
     let place : c.args.len < length c.args.stored.now = omega arith in
     rw (wide) (marked_length-set c.args.stored.now c.args.len place
     (ap has_mark c.requires.zeros ∙ no_mark-zeros (g.row.SIZE - c.args.len)))

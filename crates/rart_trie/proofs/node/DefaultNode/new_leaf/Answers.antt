@@ -7,4 +7,9 @@ pub returns : goal.returns
 returns g c =
     let bytes = g.P.Partial.bytes c.args.prefix in
     let made = leaf bytes c.args.value in
-    record { leaf = refl; canonical = leaf-canonical made bytes _ refl; pairs = leaf-pairs made bytes _ refl }
+    rw c.leaf.ensures record {
+      leaf = refl;
+      canonical = leaf-canonical made bytes _ refl;
+      pairs = leaf-pairs made
+          bytes _ refl;
+    }

@@ -1,9 +1,13 @@
-use Rattle.std.proofs.Common.{arith}
+use Rattle.std.proofs.Common.{◌∙◌, ◌+◌, ◌++◌, ap, drop, length, rules}
+use Rattle.std.proofs.lemmas.List.{drop_at, length-append}
 use Rattle.rart_keys.proofs.partials.array_partial.ArrPartial.from_two.Goals as goal
 
-pub invariant_of-result : goal.invariant_of-result
-invariant_of-result g c = record {
-  in_range = omega (arith, c.mark_length-code.ensures.length, c.requires);
-  full_width = c.mark_length-code.ensures.full_width;
-  are_bytes = c.mark_length-code.ensures.are_bytes;
-}
+pub mark_length-code-requires : goal.mark_length-code-requires
+mark_length-code-requires g c =
+    let a = c.args.first.now in
+    let b = c.args.second.now in
+    search (
+      ap (drop (length a + length b)) c.joined_bytes-stored.ensures
+          ∙ drop_at (a ++ b) _ (length a + length b) (length-append a b),
+      rules,
+    )

@@ -1,4 +1,5 @@
-use Rattle.std.proofs.Common.{◌∙◌, sym, arith}
+use Rattle.std.proofs.Common.{◌∙◌, ap, sym, length, arith}
+use Rattle.rart_maps.specs.FourKeys.{four_entries}
 use Rattle.rart_parts.specs.Entries.{sorted_entries}
 use Rattle.rart_trie.specs.storages.Stored.{child_entries, storage_capacity}
 use Rattle.rart_trie.proofs.storages.DeletionLemmas.{few-left, none-left, capacity-kept, capacity-given}
@@ -12,22 +13,19 @@ returns-then-keeps_kind-clause-capacity g c = c.delete_within.ensures.capacity
 
 pub replace_empty-requires-clause-entries : goal.replace_empty-requires-clause-entries
 replace_empty-requires-clause-entries g c =
-    let few = rw c.in-Node4.is at c.keeps_kind.ensures.changed_kind c.if-keeps_kind.false in
+    let few = rw (← c.self.view_is, c.in-Node4.is) at c.keeps_kind.ensures.changed_kind c.if-keeps_kind.false in
     rw (c.delete_child-child.ensures.rest, c.in-Node4.map-is)
-    (none-left c.args.b c.in-Node4.map.entries few.0 few.1)
+    (none-left c.args.b (four_entries c.in-Node4.keys c.in-Node4.map) few.0 few.1)
 
-pub fill_from_resized-requires : goal.fill_from_resized-requires
-fill_from_resized-requires g c =
-    let few = rw c.in-Node16.is at c.keeps_kind.ensures.changed_kind c.if-keeps_kind.false in (
+pub fill_from_sorted-requires : goal.fill_from_sorted-requires
+fill_from_sorted-requires g c =
+    let few = rw (← c.self.view_is, c.in-Node16.is) at c.keeps_kind.ensures.changed_kind c.if-keeps_kind.false in (
       omega arith,
       (
-        omega arith,
+        c.none-keys.ensures,
         (
-          c.in_ok-next-in-Node16.ensures.entries,
-          rw (
-            c.delete_child-child-in-Node16.ensures.rest,
-            c.in-Node16.map-is,
-          )
+          ap length c.none-keys.ensures ∙ sym (ap length c.in_ok-next-in-Node16.ensures.ok.0),
+          rw (c.delete_child-child-in-Node16.ensures.rest, c.in-Node16.map-is)
               (few-left c.args.b 4 c.in-Node16.map.entries few.0 few.1),
         ),
       ),
@@ -35,7 +33,7 @@ fill_from_resized-requires g c =
 
 pub fill_from_indexed-requires : goal.fill_from_indexed-requires
 fill_from_indexed-requires g c =
-    let few = rw c.in-Node48.is at c.keeps_kind.ensures.changed_kind c.if-keeps_kind.false in (
+    let few = rw (← c.self.view_is, c.in-Node48.is) at c.keeps_kind.ensures.changed_kind c.if-keeps_kind.false in (
       omega arith,
       (
         omega arith,
@@ -52,7 +50,7 @@ fill_from_indexed-requires g c =
 
 pub fill_from_direct-requires : goal.fill_from_direct-requires
 fill_from_direct-requires g c =
-    let few = rw c.in-Node256.is at c.keeps_kind.ensures.changed_kind c.if-keeps_kind.false in (
+    let few = rw (← c.self.view_is, c.in-Node256.is) at c.keeps_kind.ensures.changed_kind c.if-keeps_kind.false in (
       omega arith,
       (
         c.in_ok-next-in-Node256.ensures.entries,
@@ -66,26 +64,28 @@ fill_from_direct-requires g c =
 
 pub returns-in-Node4-clause-entries : goal.returns-in-Node4-clause-entries
 returns-in-Node4-clause-entries g c =
-    let few = rw c.in-Node4.is at c.keeps_kind.ensures.changed_kind c.if-keeps_kind.false in
-    rw (c.replace_empty.ensures, c.childless.ensures.entries, c.in-Node4.is) (sym (none-left c.args.b
-    c.in-Node4.map.entries few.0 few.1))
+    let few = rw (← c.self.view_is, c.in-Node4.is) at c.keeps_kind.ensures.changed_kind c.if-keeps_kind.false in
+    rw (c.replace_empty.ensures, c.childless.ensures.entries, ← c.self.view_is, c.in-Node4.is) (sym (none-left c.args.b
+    (four_entries c.in-Node4.keys c.in-Node4.map) few.0 few.1))
 
 pub returns-in_ok-next-in-Node16-clause-capacity : goal.returns-in_ok-next-in-Node16-clause-capacity
 returns-in_ok-next-in-Node16-clause-capacity g c =
-    let few = rw c.in-Node16.is at c.keeps_kind.ensures.changed_kind c.if-keeps_kind.false in
+    let few = rw (← c.self.view_is, c.in-Node16.is) at c.keeps_kind.ensures.changed_kind c.if-keeps_kind.false in
     rw (
       c.replace_empty-in-Node16.ensures,
+      ← c.self.view_is,
       c.in-Node16.is,
-      c.fill_from_resized.ensures.filled,
+      c.fill_from_sorted.ensures.filled,
       c.delete_child-child-in-Node16.ensures.rest,
       c.in-Node16.map-is,
     ) (capacity-given c.args.b 16 c.in-Node16.map.entries few.0 few.1)
 
 pub returns-in_ok-next-in-Node48-clause-capacity : goal.returns-in_ok-next-in-Node48-clause-capacity
 returns-in_ok-next-in-Node48-clause-capacity g c =
-    let few = rw c.in-Node48.is at c.keeps_kind.ensures.changed_kind c.if-keeps_kind.false in
+    let few = rw (← c.self.view_is, c.in-Node48.is) at c.keeps_kind.ensures.changed_kind c.if-keeps_kind.false in
     rw (
       c.replace_empty-in-Node48.ensures,
+      ← c.self.view_is,
       c.in-Node48.is,
       c.fill_from_indexed.ensures.filled,
       c.delete_child-child-in-Node48.ensures.rest,
@@ -94,9 +94,10 @@ returns-in_ok-next-in-Node48-clause-capacity g c =
 
 pub returns-in_ok-next-in-Node256-clause-capacity : goal.returns-in_ok-next-in-Node256-clause-capacity
 returns-in_ok-next-in-Node256-clause-capacity g c =
-    let few = rw c.in-Node256.is at c.keeps_kind.ensures.changed_kind c.if-keeps_kind.false in
+    let few = rw (← c.self.view_is, c.in-Node256.is) at c.keeps_kind.ensures.changed_kind c.if-keeps_kind.false in
     rw (
       c.replace_empty-in-Node256.ensures,
+      ← c.self.view_is,
       c.in-Node256.is,
       c.fill_from_direct.ensures.filled,
       c.delete_child-child-in-Node256.ensures.rest,

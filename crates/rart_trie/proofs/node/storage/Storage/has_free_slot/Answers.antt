@@ -8,7 +8,8 @@ pub returns-in-Node256-clause-not_widest : goal.returns-in-Node256-clause-not_wi
 returns-in-Node256-clause-not_widest g c =
     let n = c.num_children-in-Node256.ensures in
     let es = c.in-Node256.map.entries in
-    let absent : child_at c.args.b es ≡ None = sym (ap (λ s. child_at c.args.b (child_entries s)) c.in-Node256.is)
+    let absent : child_at c.args.b es ≡ None = ap (λ s. child_at c.args.b (child_entries s))
+    (sym c.in-Node256.is ∙ c.self.view_is)
     ∙ c.requires in
     let less : c.num_children-in-Node256.result < 256
     = omega (

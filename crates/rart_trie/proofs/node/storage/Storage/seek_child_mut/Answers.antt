@@ -1,14 +1,14 @@
 use Rattle.std.proofs.Common.{sym, ap, ◌∙◌, ◌≡◌, refl, Option, None, Some, ℕ, List}
 use Rattle.std.specs.Prelude.{OnSome}
 use Rattle.rart_parts.specs.Entries.{child_at, replaced_at, sorted_entries}
-use Rattle.rart_trie.specs.declared.node.storage.Storage.{Storage}
-use Rattle.rart_trie.specs.declared.node.storage.Storage.TheVariants.{Node4, Node16, Node48, Node256}
+use Rattle.rart_trie.specs.declared.node.storage.Kind.{Kind}
+use Rattle.rart_trie.specs.declared.node.storage.Kind.TheVariants.{Node16, Node48, Node256}
 use Rattle.rart_trie.specs.storages.Stored.{child_entries, storage_capacity, stored_prefix, stored_value}
 use Rattle.rart_trie.specs.storages.Stored.{StoresLent, StoresSame}
 use Rattle.rart_trie.proofs.node.storage.Storage.seek_child_mut.Goals as goal
 
 -- a storage and what it ends as are s and t, of one kind
-module _ {P V N : Type 0} {old s new t : Storage P V N} {es : List (ℕ × N)} {v : Option V} (old-is : old ≡ s)
+module _ {P V N : Type 0} {old s new t : Kind P V N} {es : List (ℕ × N)} {v : Option V} (old-is : old ≡ s)
     (new-is : new ≡ t) (same : storage_capacity t ≡ storage_capacity s) (es-are : es ≡ child_entries s)
     (value-is : v ≡ stored_value s) (prefix-is : stored_prefix t ≡ stored_prefix s) where
   stores_lent : {A : Type 0} (b : ℕ) (w : N) (r : Option A)
@@ -20,44 +20,24 @@ module _ {P V N : Type 0} {old s new t : Storage P V N} {es : List (ℕ × N)} {
   stores_same : (child_entries t ≡ es) × (stored_value t ≡ v) → StoresSame old new
   stores_same kept = rw (old-is, new-is) (same, kept.0 ∙ es-are, kept.1 ∙ value-is, prefix-is)
 
-pub returns-in-Node4 : goal.returns-in-Node4
-returns-in-Node4 g c =
-    let es-are = ap (λ m. m.entries) c.in-Node4.map-is in
-    let value-is = ap (λ m. m.extra) c.in-Node4.map-is in (
-      (
-        refl,
-        λ w. stores_lent {t = Node4 c.in-Node4.field-0 (c.seek_child_mut.follows.lender w)} c.in-Node4.is
-            (rw c.in-Node4.is refl)
-            refl es-are value-is refl c.args.b w c.seek_child_mut.result (c.seek_child_mut.follows.holds w),
-        stores_same {t = Node4 c.in-Node4.field-0 c.seek_child_mut.follows.lender-at-none} c.in-Node4.is
-            (rw c.in-Node4.is refl)
-            refl es-are value-is refl c.seek_child_mut.follows.holds-at-none,
-      ),
-      record {
-        writes_back = tt;
-        value = c.seek_child_mut.ensures.value
-            ∙ ap (child_at c.args.b) (es-are ∙ sym (ap child_entries c.in-Node4.is));
-      },
-    )
-
 pub returns-in-Node16 : goal.returns-in-Node16
 returns-in-Node16 g c =
     let es-are = ap (λ m. m.entries) c.in-Node16.map-is in
     let value-is = ap (λ m. m.extra) c.in-Node16.map-is in (
       (
         refl,
-        λ w. stores_lent {t = Node16 c.in-Node16.field-0 (c.seek_child_mut-in-Node16.follows.lender w)} c.in-Node16.is
-            (rw c.in-Node16.is refl)
-            refl es-are value-is refl c.args.b w c.seek_child_mut-in-Node16.result
-            (c.seek_child_mut-in-Node16.follows.holds w),
-        stores_same {t = Node16 c.in-Node16.field-0 c.seek_child_mut-in-Node16.follows.lender-at-none} c.in-Node16.is
-            (rw c.in-Node16.is refl)
-            refl es-are value-is refl c.seek_child_mut-in-Node16.follows.holds-at-none,
+        λ w. stores_lent {t = Node16 c.in-Node16.field-0 (c.seek_child_mut.follows.lender w)}
+            (sym c.self.view_is ∙ c.in-Node16.is) (rw c.in-Node16.is refl)
+            refl es-are value-is refl c.args.b w c.seek_child_mut.result
+            (c.seek_child_mut.follows.holds w),
+        stores_same {t = Node16 c.in-Node16.field-0 c.seek_child_mut.follows.lender-at-none}
+            (sym c.self.view_is ∙ c.in-Node16.is) (rw c.in-Node16.is refl)
+            refl es-are value-is refl c.seek_child_mut.follows.holds-at-none,
       ),
       record {
         writes_back = tt;
-        value = c.seek_child_mut-in-Node16.ensures.value
-            ∙ ap (child_at c.args.b) (es-are ∙ sym (ap child_entries c.in-Node16.is));
+        value = c.seek_child_mut.ensures.value
+            ∙ ap (child_at c.args.b) (es-are ∙ ap child_entries (sym c.in-Node16.is ∙ c.self.view_is));
       },
     )
 
@@ -67,18 +47,18 @@ returns-in-Node48 g c =
     let value-is = ap (λ m. m.extra) c.in-Node48.map-is in (
       (
         refl,
-        λ w. stores_lent {t = Node48 c.in-Node48.field-0 (c.seek_child_mut-in-Node48.follows.lender w)} c.in-Node48.is
-            (rw c.in-Node48.is refl)
+        λ w. stores_lent {t = Node48 c.in-Node48.field-0 (c.seek_child_mut-in-Node48.follows.lender w)}
+            (sym c.self.view_is ∙ c.in-Node48.is) (rw c.in-Node48.is refl)
             refl es-are value-is refl c.args.b w c.seek_child_mut-in-Node48.result
             (c.seek_child_mut-in-Node48.follows.holds w),
-        stores_same {t = Node48 c.in-Node48.field-0 c.seek_child_mut-in-Node48.follows.lender-at-none} c.in-Node48.is
-            (rw c.in-Node48.is refl)
+        stores_same {t = Node48 c.in-Node48.field-0 c.seek_child_mut-in-Node48.follows.lender-at-none}
+            (sym c.self.view_is ∙ c.in-Node48.is) (rw c.in-Node48.is refl)
             refl es-are value-is refl c.seek_child_mut-in-Node48.follows.holds-at-none,
       ),
       record {
         writes_back = tt;
         value = c.seek_child_mut-in-Node48.ensures.value
-            ∙ ap (child_at c.args.b) (es-are ∙ sym (ap child_entries c.in-Node48.is));
+            ∙ ap (child_at c.args.b) (es-are ∙ ap child_entries (sym c.in-Node48.is ∙ c.self.view_is));
       },
     )
 
@@ -89,16 +69,16 @@ returns-in-Node256 g c =
       (
         refl,
         λ w. stores_lent {t = Node256 c.in-Node256.field-0 (c.seek_child_mut-in-Node256.follows.lender w)}
-            c.in-Node256.is (rw c.in-Node256.is refl)
+            (sym c.self.view_is ∙ c.in-Node256.is) (rw c.in-Node256.is refl)
             refl es-are value-is refl c.args.b w c.seek_child_mut-in-Node256.result
             (c.seek_child_mut-in-Node256.follows.holds w),
         stores_same {t = Node256 c.in-Node256.field-0 c.seek_child_mut-in-Node256.follows.lender-at-none}
-            c.in-Node256.is (rw c.in-Node256.is refl)
+            (sym c.self.view_is ∙ c.in-Node256.is) (rw c.in-Node256.is refl)
             refl es-are value-is refl c.seek_child_mut-in-Node256.follows.holds-at-none,
       ),
       record {
         writes_back = tt;
         value = c.seek_child_mut-in-Node256.ensures.value
-            ∙ ap (child_at c.args.b) (es-are ∙ sym (ap child_entries c.in-Node256.is));
+            ∙ ap (child_at c.args.b) (es-are ∙ ap child_entries (sym c.in-Node256.is ∙ c.self.view_is));
       },
     )
