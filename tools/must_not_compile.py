@@ -244,9 +244,9 @@ BODIES = (
         "a deletion removes the child before it allocates the smaller storage",
         *SHRINK,
         "let mut next = new_sorted(alloc)?;\n                let child = map.delete_child(b);\n"
-        "                next.fill_from_resized(map);",
+        "                next.fill_from_indexed(map);",
         "let child = map.delete_child(b);\n                let mut next = new_sorted(alloc)?;\n"
-        "                next.fill_from_resized(map);",
+        "                next.fill_from_indexed(map);",
         (
             "error[linear-value-let-go]: control leaves here and lets `child` go, and `Option<N>` is not `Drop`, since "
             "`N` is not",
@@ -255,8 +255,8 @@ BODIES = (
     Body(
         "a wider storage loses a child",
         *GROW,
-        "next.fill_from_resized(map);",
-        "next.fill_from_resized(map);\n                let _lost = next.delete_child(b);",
+        "keys.move_to_sorted(map, &mut next);",
+        "keys.move_to_sorted(map, &mut next);\n                let _lost = next.delete_child(b);",
         (
             "error[linear-value-let-go]: `_lost` is let go where its block ends, and `Option<N>` is not `Drop`, since "
             "`N` is not",
@@ -265,10 +265,8 @@ BODIES = (
     Body(
         "a wider storage loses the value",
         *GROW,
-        "fill(next.extra_mut(), map.extra_mut().take());\n                let prefix = take_prefix(prefix);\n"
-        "                self.replace_empty(Storage::Node16(prefix, next));",
-        "let _lost = map.extra_mut().take();\n                let prefix = take_prefix(prefix);\n"
-        "                self.replace_empty(Storage::Node16(prefix, next));",
+        "fill(next.extra_mut(), map.head_mut().take());",
+        "let _lost = map.head_mut().take();",
         (
             "error[linear-value-let-go]: `_lost` is let go where its block ends, and `Option<V>` is not `Drop`, since "
             "`V` is not",

@@ -67,6 +67,6 @@ fn is_refused_well(alloc: Global, at: usize) -> Option<bool> {
 }
 
 #[test]
-fn a_tree_that_lacks_memory_to_print_it_is_an_error(rt: HostRuntime) {
+fn a_tree_printed_with_requests_refused_in_turn_is_an_error(rt: HostRuntime) {
     assert!(rt; is_swept(rt.alloc(), |at| is_refused_well(rt.alloc(), at)));
 }

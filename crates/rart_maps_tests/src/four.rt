@@ -6,6 +6,7 @@ use rart_maps::mapping::{FourKeys, NodeMapping, SortedKeyedMapping};
 use std::alloc::Global;
 
 /// Keys, and a child for each.
+#[derive(Drop)]
 struct Four {
     keys: FourKeys,
     children: Block<Option<u64>, (), u8, 4>,
@@ -125,26 +126,33 @@ fn moves_there_and_back(alloc: Global) -> bool {
         return false;
     };
     let filled = four.add(200, 2) == Some(2) && four.add(0, 0) == Some(0);
-    four.keys.move_to_sorted(&mut four.children, &mut wide);
-    let moved = wide.num_children() == 2 && four.keys.num_children(&four.children) == 0;
+    let Four {
+        mut keys,
+        mut children,
+    } = four;
+    if keys.num_children(&children) != 2 {
+        return false;
+    }
+    keys.move_to_sorted(&mut children, &mut wide);
+    if wide.num_children() != 2 || keys.num_children(&children) != 0 {
+        return false;
+    }
+    let freed = keys.destroy_empty(children) == Some(7);
     let Ok(mut children) = Block::new(alloc, Some(9), ()) else {
         return false;
     };
     let mut keys = FourKeys::none();
     keys.fill_from_sorted(&mut children, &mut wide);
-    let Four {
-        keys: none,
-        children: empty,
-    } = four;
-    let freed = none.destroy_empty(empty) == Some(7);
     let first = keys
         .iter(&children)
         .next()
         .map(|(byte, child)| (byte, *child));
     let deleted = keys.delete_child(&mut children, 200);
+    if keys.num_children(&children) != 1 {
+        return false;
+    }
     let only = keys.take_only_child(&mut children);
     filled
-        && moved
         && freed
         && first == Some((0, 0))
         && deleted == Some(2)

@@ -84,7 +84,7 @@ fn is_refused_well(alloc: Global, at: usize, form: Form) -> Option<bool> {
 }
 
 #[test]
-fn an_offered_value_that_is_refused_is_returned(rt: HostRuntime) {
+fn an_offered_value_refused_in_turn_is_returned(rt: HostRuntime) {
     for (form, _dropped) in FORMS {
         assert!(rt; is_swept(rt.alloc(), |at| is_refused_well(rt.alloc(), at, form)));
     }
