@@ -11,7 +11,8 @@ it ends with status 0, has freed all that it was given, and
   make_no_request            which say so of the calls in them, a message came and no request was refused;
   request_within             which add up the bytes requested, a message came and at least one byte was added up.
 
-Such a test of the sources that is in no program fails: its crate wasn't built, or not with its tests.
+Such a test of the sources that is in no program fails: its crate wasn't built, or not with its tests. So does a source
+that sends messages and whose tests have none of these words in their names: it would run without the library alone.
 
 Then the program crates/rart_script/out/rart_script runs from outside, by refused_program and program_rows,
 crates/rart_routes/out/rart_routes by refused_routes, and crates/rart_random/out/rart_random by refused_random.
@@ -39,6 +40,7 @@ SWEEP = re.compile(r"refused_in_turn")
 QUIET = re.compile(r"makes?_no_request")
 ADDED = re.compile(r"requests?_within")
 KINDS = (SWEEP, QUIET, ADDED)
+SENDS = re.compile(r"^use rart_test_tools::refusals::", re.M)
 IN_SOURCE = re.compile(r"^\s*#\[test\]\s+fn (\w+)", re.M)
 
 
@@ -77,6 +79,15 @@ def missing(found):
             for test in IN_SOURCE.findall(source.read_text()):
                 if any(kind.search(test) for kind in KINDS) and test not in ran:
                     yield f"{crate.name} {test}"
+
+
+def unmarked():
+    """Each source of tests that sends messages to the library and has no test of the three kinds."""
+    for source in sorted(TOP.glob("crates/*_tests/src/**/*.rt")):
+        text = source.read_text()
+        names = IN_SOURCE.findall(text)
+        if SENDS.search(text) and names and not any(kind.search(name) for name in names for kind in KINDS):
+            yield str(source.relative_to(TOP))
 
 
 def run(program, test, library):
@@ -140,6 +151,9 @@ def main():
                 passed += 1
     for name in missing(found):
         print(f"refused: {name}: FAILED: it is in no test program")
+        failed += 1
+    for name in unmarked():
+        print(f"refused: {name}: FAILED: none of its tests has a word of the library in its name")
         failed += 1
     for kind in KINDS:
         if not any(kind.search(test) for _, test in found):
