@@ -24,7 +24,7 @@ fn value_at<const W: usize, M: NodeMapping<TestNode, W>>(map: &M, byte: u8) -> O
     map.seek_child(byte)?.value().copied()
 }
 
-/// Returns the same of at most four children, whose keys aren't in their block.
+/// Returns what `read` does, of at most four children, whose keys aren't in their block.
 fn read_four(
     keys: &FourKeys,
     children: &Block<Option<u64>, (), TestNode, 4>,

@@ -44,7 +44,7 @@ fn ends_at_every_byte(tree: &Tree, count: usize) -> Option<usize> {
     None
 }
 
-// The same of a new tree; 1000 where it can't be filled.
+// The first such byte of a new tree; 1000 where it can't be filled.
 fn ends_in_a_tree(alloc: Global, count: usize) -> Option<usize> {
     let mut tree = Tree::new(alloc);
     if insert_spaced(&mut tree, count) {
