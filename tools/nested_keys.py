@@ -69,6 +69,7 @@ CALLS = [
     ("count_prefix", 1023),
     ("count_range", 1022),
     ("clone", 1024),
+    ("outline", 1024),
     ("iter", 1024),
     ("iter_descending", 1024),
     ("both_ends", 1024),

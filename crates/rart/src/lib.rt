@@ -38,7 +38,7 @@ pub use rart_keys::{ArrPartial, ArrayKey, KeyTrait, Partial, keys, partials};
 pub use rart_maps::mapping;
 pub use rart_nodes::node::{VisitControl, VisitError};
 pub use rart_nodes::{
-    Count, LendingKeyBytes, LendingKeyView, NotInserted, Paired, Refused, Seen, Slot, SlotUpdate,
-    UpdateError, Visits, node,
+    Count, LendingKeyBytes, LendingKeyView, NotInserted, Outline, Paired, Refused, Seen, Slot,
+    SlotUpdate, UpdateError, Visits, node,
 };
 pub use rart_parts::{TreeError, utils};

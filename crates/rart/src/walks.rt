@@ -1,4 +1,4 @@
-//! Look-ups by probe, iterators in both orders and from both ends, and calls of a callback with each item.
+//! Look-ups by probe, iterators in both orders and from both ends, calls of a callback with each item, and texts.
 
 // Each call with a callback requires that it is callable with each item in turn, as the earlier calls leave it. A
 // callback without a condition always is; the caller proves a condition. The caller of a `_by_ref` form keeps its
@@ -14,6 +14,7 @@ mod debug;
 pub(crate) mod descending;
 pub mod iter;
 mod nearest;
+mod outline;
 mod prefixes;
 pub mod range;
 mod try_views;

@@ -3,6 +3,8 @@ use crate::trees::{Key, Tree, key};
 use crate::walks::walk;
 use rart::laws::counts::count_below;
 use rart::{KeyTrait, TreeStatsTrait};
+use std::fmt;
+use std::fmt::Write;
 use std::ops::Bound;
 
 // Returns the height.
@@ -104,6 +106,27 @@ fn cloned(tree: &Tree) -> Option<usize> {
     }
 }
 
+/// A writer that counts the lines of what it is given.
+struct LineCount(usize);
+
+impl fmt::Write for LineCount {
+    fn write_str(&mut self, text: &str) -> fmt::Result {
+        for byte in text.as_bytes() {
+            if *byte == b'\n' {
+                self.0 = self.0.saturating_add(1);
+            }
+        }
+        Ok(())
+    }
+}
+
+// Writes the tree as text, and returns how many lines that has.
+fn outline(tree: &Tree) -> Option<usize> {
+    let mut lines = LineCount(0);
+    write!(lines, "{}", tree.outline()).ok()?;
+    Some(lines.0)
+}
+
 /// Makes the call of this name on a tree of all keys. `None` if there is none, or no memory.
 pub fn read(tree: &Tree, name: &str) -> Option<usize> {
     match name {
@@ -121,6 +144,7 @@ pub fn read(tree: &Tree, name: &str) -> Option<usize> {
             Bound::Excluded(key(1024)),
         )),
         "clone" => cloned(tree),
+        "outline" => outline(tree),
         _ => walk(tree, name),
     }
 }

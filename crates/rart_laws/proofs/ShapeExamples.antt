@@ -1,5 +1,6 @@
 -- Rows of the definitions, by computation.
 use Rattle.std.proofs.Common.{◌≡◌, ℕ, zero, suc, List, [], ◌∷◌, ◌++◌, refl, Option, Some, None, Bool, true, false}
+use Rattle.std.proofs.Common.{codes, decimal}
 use Rattle.rart_trie.specs.edits.EditRuns.{Edit, puts, removes, run_tree}
 use Rattle.rart_trie.specs.edits.InsertAllocations.{insert_allocates}
 use Rattle.rart_trie.specs.walks.Cut.{cut}
@@ -8,7 +9,8 @@ use Rattle.rart_trie.specs.edits.RemoveAllocations.{remove_allocates}
 use Rattle.rart_nodes.specs.joins.SharedEdges.{joint_visits, shared_edges}
 use Rattle.rart_laws.specs.SampleKeys.{nested_keys, left_keys, right_keys}
 use Rattle.rart_trie.specs.shapes.Shape.{NodeRecord, capacity_of, record_at}
-use Rattle.rart_trie.specs.tries.Tree.{tree_nodes}
+use Rattle.rart_trie.specs.tries.Tree.{tree_nodes, tree_pairs}
+use Rattle.rart_nodes.specs.walks.Outlines.{listed_outline}
 
 -- a leaf, and an inner node with these edge bytes
 abbrev leaf : NodeRecord
@@ -132,3 +134,11 @@ visits-no_left s = refl
 pub visits-no_right : (s : List (List ℕ)) → joint_visits s [] ≡ 0
 visits-no_right [] = refl
 visits-no_right (k ∷ s) = refl
+
+-- "cat", "catalog" and "dog", node by node
+abbrev three_words : List (Edit ℕ)
+three_words = puts (codes "cat") 1 ∷ puts (codes "catalog") 2 ∷ puts (codes "dog") 3 ∷ []
+
+outlined : listed_outline (λ v. Some (decimal v)) (tree_pairs (run_tree three_words None)) (nodes_after three_words)
+    ≡ Some (codes "Node4 \"\"\n  Node4 \"cat\"=1\n    Leaf \"alog\"=2\n  Leaf \"dog\"=3\n")
+outlined = refl

@@ -5,6 +5,8 @@ pub mod CutLemmas
 pub mod EntryLemmas
 pub mod FirstBelow
 pub mod MatchLemmas
+pub mod OutlineLemmas
+pub mod OutlineLists
 pub mod PartCuts
 pub mod PartLemmas
 pub mod PathLemmas

@@ -3,6 +3,8 @@ pub mod CommonPrefixes
 pub mod KeyViews
 pub mod Matched
 pub mod Matches
+pub mod Outlined
+pub mod Outlines
 pub mod Part
 pub mod SegmentLaws
 pub mod Shown

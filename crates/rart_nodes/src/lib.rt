@@ -7,7 +7,7 @@
 pub mod node;
 
 pub use node::seen::Seen;
-pub use node::{LendingKeyBytes, LendingKeyView, VisitControl, VisitError, iter, range};
+pub use node::{LendingKeyBytes, LendingKeyView, Outline, VisitControl, VisitError, iter, range};
 pub use rart_shape as shape;
 pub use rart_trie::{
     Count, NodeStats, NotInserted, Outcome, Paired, Refused, Slot, SlotUpdate, TreeStats,

@@ -4,6 +4,7 @@ use crate::digits::Digits;
 use crate::words::Bytes;
 use rart::{LendingKeyView, TreeError, TreeStats};
 use std::alloc::Global;
+use std::fmt;
 
 /// The most bytes of an answer; they are requested once, so that no answer requests memory.
 const ROOM: usize = 1 << 18;
@@ -339,5 +340,15 @@ impl Answer {
             self.put(b"/");
             self.digits(of_width.total_children as u64);
         }
+    }
+}
+
+impl fmt::Write for Answer {
+    /// Writes a text with a bar in place of each end of a line.
+    fn write_str(&mut self, text: &str) -> fmt::Result {
+        for byte in text.as_bytes() {
+            self.put(&[if *byte == b'\n' { b'|' } else { *byte }]);
+        }
+        Ok(())
     }
 }

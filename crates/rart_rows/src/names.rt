@@ -71,6 +71,7 @@ pub enum Whole {
     Stats,
     FirstKeyValue,
     LastKeyValue,
+    Outline,
 }
 
 /// Insertions and updates at a key.

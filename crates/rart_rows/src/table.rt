@@ -9,7 +9,7 @@ use crate::names::{
 pub type Entry = (&'static str, Call, &'static str);
 
 // Where two names are one call, the second is the word of the program `rart_script`.
-static NAMES: [Entry; 94] = [
+static NAMES: [Entry; 95] = [
     ("get", Call::Look(Look::Get), "k"),
     ("contains_key", Call::Look(Look::ContainsKey), "k"),
     (
@@ -87,6 +87,7 @@ static NAMES: [Entry; 94] = [
     ("stats", Call::Whole(Whole::Stats), ""),
     ("first_key_value", Call::Whole(Whole::FirstKeyValue), ""),
     ("last_key_value", Call::Whole(Whole::LastKeyValue), ""),
+    ("outline", Call::Whole(Whole::Outline), ""),
     ("insert", Call::Insertion(Insertion::Insert), "kv"),
     ("try_insert", Call::Insertion(Insertion::TryInsert), "kv"),
     ("insert_new", Call::Insertion(Insertion::InsertNew), "kv"),

@@ -9,6 +9,7 @@ mod examples;
 mod hops;
 mod numbers;
 mod order_key;
+mod outlines;
 mod pairs;
 mod readings;
 mod rows;
@@ -18,6 +19,7 @@ use crate::completions::{Words, completions, count_completions};
 use crate::examples::print_examples;
 use crate::hops::{Routes, next_hop};
 use crate::order_key::{ByOrder, OrderKey};
+use crate::outlines::words_outlined;
 use crate::pairs::{Orders, orders_of};
 use crate::readings::{Readings, readings_between};
 use crate::shared::count_shared;
@@ -42,6 +44,14 @@ fn print_completions(rt: &impl Print, words: &Words) -> io::Result<()> {
     }
     match count_completions(words, b"d") {
         Ok(count) => println!(rt; "completions of d: {count}"),
+        Err(_) => println!(rt; "out of memory"),
+    }
+}
+
+// The tree of words is printed node by node.
+fn print_nodes(rt: &impl Print, alloc: Global, words: &Words) -> io::Result<()> {
+    match words_outlined(alloc, words) {
+        Ok(text) => print!(rt; "{text}"),
         Err(_) => println!(rt; "out of memory"),
     }
 }
@@ -94,7 +104,10 @@ fn print_words_and_routes(rt: &impl Print, alloc: Global) -> io::Result<()> {
         Err(_) => println!(rt; "out of memory")?,
     }
     match rows::words(alloc) {
-        Ok(words) => print_completions(rt, &words),
+        Ok(words) => {
+            print_completions(rt, &words)?;
+            print_nodes(rt, alloc, &words)
+        }
         Err(_) => println!(rt; "out of memory"),
     }
 }

@@ -13,7 +13,8 @@ ghost use Rattle.rart_trie.specs.ranges.Starts.{children_above};
 ghost use Rattle.rart_trie.specs.tries.CanonicalTest.{is_canonical, is_canonical_tree};
 ghost use Rattle.rart_trie.specs.tries.Ends.{end_child, last_child};
 ghost use Rattle.rart_trie.specs.tries.Tree.{IsCanonicalTree, tree_pairs};
-ghost use Rattle.rart_trie.specs.tries.Trie.{child, child_in, children_in, edges_of, no_children, prefix_of, value_of};
+ghost use Rattle.rart_trie.specs.tries.Trie.{capacity_in, child, child_in, children_in, edges_of, no_children};
+ghost use Rattle.rart_trie.specs.tries.Trie.{prefix_of, value_of};
 
 use rart_keys::{KeyTrait, Partial};
 use rart_trie::node::{DefaultNode, End, Node, NodeIter};
@@ -242,6 +243,13 @@ impl<'a, P: Partial, V, C> Entered<'a, P, V, C> {
         ensures { result ≡ length (edges_of (children_in self.entry.node.now)) }
     {
         self.node.num_children()
+    }
+
+    /// Returns the greatest number of children of the node's kind.
+    pub(crate) fn capacity(self) -> usize
+        ensures { result ≡ capacity_in self.entry.node.now }
+    {
+        self.node.capacity()
     }
 
     /// Returns the child at byte `b`, not yet visited.

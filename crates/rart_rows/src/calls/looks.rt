@@ -7,6 +7,7 @@ use crate::names::{Count, Look, Probe, Whole};
 use crate::words::same_key;
 use crate::world::Tree;
 use rart::{KeyTrait, TreeError, TreeStats, TreeStatsTrait};
+use std::fmt::Write;
 
 /// A pair, if there is one.
 pub fn put_found<K: KeyTrait + Drop>(found: Option<(K, &u64)>, answer: &mut Answer) {
@@ -193,6 +194,13 @@ fn canonical<K: KeyTrait>(tree: &Tree<K>, answer: &mut Answer) {
     answer.word(b"done");
 }
 
+fn outline<K: KeyTrait>(tree: &Tree<K>, answer: &mut Answer) {
+    match write!(answer, "{}", tree.outline()) {
+        Ok(()) => answer.end(),
+        Err(_refused) => answer.word(b"failed"),
+    }
+}
+
 /// Reads something of the whole tree.
 pub fn read_whole<K: KeyTrait + Drop>(tree: &Tree<K>, whole: Whole, answer: &mut Answer) {
     match whole {
@@ -202,5 +210,6 @@ pub fn read_whole<K: KeyTrait + Drop>(tree: &Tree<K>, whole: Whole, answer: &mut
         Whole::Stats => put_stats(tree.get_tree_stats(), answer),
         Whole::FirstKeyValue => put_found(tree.first_key_value(), answer),
         Whole::LastKeyValue => put_found(tree.last_key_value(), answer),
+        Whole::Outline => outline(tree, answer),
     }
 }
