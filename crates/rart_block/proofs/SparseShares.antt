@@ -1,4 +1,5 @@
--- A `&` to a sparse block shows its header and the items in its slots, where a `&` to each can be made. Assumes `Logic`.
+-- A `&` to a sparse block shows its header and the items in its slots, where a `&` to each can be made. Assumes
+-- `Logic`.
 use mathlib.Core.List.{List, [], ◌∷◌}
 use Prim.Native.Nat.{ℕ}
 use seplogic.Ra.Ura.{Ura}
@@ -17,7 +18,8 @@ use denote.Struct.Lending.{Lends-said}
 use Rattle.std.specs.Prelude.{Option, Some, None}
 use Rattle.std.specs.Mem.{type_size}
 use Rattle.rart_block.specs.Memory.{head_offset, places_offset, deed}
-use Rattle.rart_block.specs.SlotMemory.{slot, slots, slot_lent, slots_lent, fit, slots_seen, sparse_owned, sparse_shared}
+use Rattle.rart_block.specs.SlotMemory.{slot, slots, slot_lent, slots_lent, fit, slots_seen, sparse_owned}
+use Rattle.rart_block.specs.SlotMemory.{sparse_shared}
 
 module _ (T : RattleType) (LT : Laws T) where
   slot_laws : (p : Ptr) (o : Option T.Denot) → ShrLaws (slot_lent T p o)

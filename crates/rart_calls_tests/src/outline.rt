@@ -111,6 +111,7 @@ fn a_node_is_printed_with_its_kind(rt: HostRuntime) {
 }
 
 /// A writer with room for some bytes. It fails from the first text on for which there is no room.
+#[derive(Drop)]
 struct Room {
     left: usize,
     /// How many calls have failed.

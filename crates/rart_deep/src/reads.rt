@@ -107,6 +107,7 @@ fn cloned(tree: &Tree) -> Option<usize> {
 }
 
 /// A writer that counts the lines of what it is given.
+#[derive(Drop)]
 struct LineCount(usize);
 
 impl fmt::Write for LineCount {

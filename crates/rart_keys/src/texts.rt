@@ -5,8 +5,8 @@ ghost use Rattle.rart_keys.specs.ByteTexts.{byte_text, is_plain, key_text};
 
 use std::fmt;
 
-/// Writes the text of `bytes`, as [`ArrayKey`](crate::ArrayKey) and [`TailKey`](crate::TailKey) are written. It does not
-/// allocate.
+/// Writes the text of `bytes`, as [`ArrayKey`](crate::ArrayKey) and [`TailKey`](crate::TailKey) are written. It does
+/// not allocate.
 ///
 /// # Errors
 ///

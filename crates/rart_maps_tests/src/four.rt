@@ -3,6 +3,7 @@ ghost use Rattle.rart_maps.specs.FourKeys.{HasKeyEach};
 
 use rart_block::Block;
 use rart_maps::mapping::{FourKeys, NodeMapping, SortedKeyedMapping};
+use rart_test_tools::refusals::{refuse, was_refused};
 use std::alloc::Global;
 
 /// Keys, and a child for each.
@@ -105,6 +106,21 @@ fn rows_hold(four: &mut Four) -> bool {
         }
     }
     true
+}
+
+// Whether the rows hold, and none of them requests memory.
+fn rows_are_quiet(alloc: Global) -> bool {
+    let Some(mut four) = Four::new(alloc) else {
+        return false;
+    };
+    refuse(alloc, 1);
+    let held = rows_hold(&mut four);
+    !was_refused(alloc) && held
+}
+
+#[test]
+fn rows_of_four_keys_make_no_request(rt: HostRuntime) {
+    assert!(rt; rows_are_quiet(rt.alloc()));
 }
 
 // Whether the rows hold of new keys and an empty block.

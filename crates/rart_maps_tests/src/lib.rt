@@ -10,6 +10,8 @@ mod compare;
 #[cfg(test)]
 mod conversions;
 #[cfg(test)]
+mod drops;
+#[cfg(test)]
 mod extras;
 #[cfg(test)]
 mod four;

@@ -7,7 +7,7 @@ use rart_keys::KeyTrait;
 use rart_nodes::Outline;
 
 impl<K: KeyTrait, V> AdaptiveRadixTree<K, V> {
-    /// Returns the tree as text, to be written by [`Display`](std::fmt::Display) to any [`fmt::Write`](std::fmt::Write).
+    /// Returns the tree as text, which [`Display`](std::fmt::Display) writes to any [`fmt::Write`](std::fmt::Write).
     ///
     /// Each node has one line: its kind, its prefix in quotes, and `=` with its value if it has one. The bytes of a
     /// prefix are written as those of a key. A node is followed by its children, which are indented by two spaces more.

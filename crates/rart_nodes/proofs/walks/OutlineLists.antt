@@ -104,7 +104,8 @@ longest-after p (n ∷ ns) r = omega (arith, length-append p [], length-append p
 module _ {X : Type 0} where
   lines-append : (f : X → Option (List ℕ)) (xs ys : List X) → lines f (xs ++ ys) ≡ lines f xs ++? lines f ys
   lines-append f [] ys = sym (nothing-then (lines f ys))
-  lines-append f (x ∷ xs) ys = ap (λ z. f x ++? z) (lines-append f xs ys) ∙ sym (then-assoc (f x) (lines f xs) (lines f ys))
+  lines-append f (x ∷ xs) ys = ap (λ z. f x ++? z) (lines-append f xs ys)
+      ∙ sym (then-assoc (f x) (lines f xs) (lines f ys))
 
 module _ {X : Type 0} where
   lines-both : (f : List ℕ × X → Option (List ℕ)) (p : List ℕ) (ns : List (List ℕ × X))

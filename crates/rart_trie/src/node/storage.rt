@@ -26,8 +26,8 @@ mod value;
 pub(crate) mod walk;
 
 /// The prefix, the value and the children of a node. A leaf holds its value itself, so a place for a node is small.
-/// Value and map of an inner node are on the heap. The map holds at most as many children as its capacity: 4, 16, 48 or
-/// 256.
+/// Value and map of an inner node are on the heap, but for the keys of at most four children. The map holds at most as
+/// many children as its capacity: 4, 16, 48 or 256.
 // Each kind holds the prefix, so that a short prefix and the tag share a word.
 #[derive(Drop)]
 pub(crate) enum Kind<P, V, N> {

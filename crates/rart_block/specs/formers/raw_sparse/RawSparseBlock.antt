@@ -168,7 +168,8 @@ module _ (R R' : RattleType) (h : R.Denot → R'.Denot) (e : Recodes R R' h) whe
 
   pub slots_recoded : (os : List (Option R.Denot))
       → (coded_list (coded_option R'.coded)).code (map (slot_map h) os) ≡ (coded_list (coded_option R.coded)).code os
-  slots_recoded os = sym (code_map (coded_option R.coded).code (coded_option R'.coded).code (slot_map h) slot_recoded os)
+  slots_recoded os = sym (code_map (coded_option R.coded).code (coded_option R'.coded).code (slot_map h)
+      slot_recoded os)
 
 module _ (H W R R' : RattleType) (h : R.Denot → R'.Denot) where
   abbrev w : ℕ

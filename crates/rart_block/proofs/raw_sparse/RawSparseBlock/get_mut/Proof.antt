@@ -116,7 +116,8 @@ module _ (P : Parts) {M : Type 1} {𝓤 : Ura M} (𝓛 : Logic 𝓤) (at_mem : M
       join ! $ frame ! $ says ! e $ done !
 
   abbrev Had : List (Item 𝓤)
-  Had = ‵ (fobs γ ((Sparse P).coded.code b)) ∷ ‵ (fbor κ (Borrowed (mem (Sparse P)) rb ro γ)) ∷ ‵ (flft κ q) ∷ tokens ∷ []
+  Had = ‵ (fobs γ ((Sparse P).coded.code b)) ∷ ‵ (fbor κ (Borrowed (mem (Sparse P)) rb ro γ))
+      ∷ ‵ (flft κ q) ∷ tokens ∷ []
 
   walk : Asks P b i → i < 2 ^ 64
       → ent 𝓤 (⋆ 𝓛 Had) (WpFn 𝓤 𝓛.H C Λ (function P) (vptr rb ro ∷ vint w64 i ∷ []) Post)

@@ -78,7 +78,8 @@ module _ (P : Parts) {M : Type 1} {𝓤 : Ura M} (𝓛 : Logic 𝓤) (at_mem : M
       says ! refl $ done !
 
   abbrev Had : List (Item 𝓤)
-  Had = ‵ (fobs γ ((Sparse P).coded.code b)) ∷ ‵ (fbor κ (Borrowed (mem (Sparse P)) rb ro γ)) ∷ ‵ (flft κ q) ∷ tokens ∷ []
+  Had = ‵ (fobs γ ((Sparse P).coded.code b)) ∷ ‵ (fbor κ (Borrowed (mem (Sparse P)) rb ro γ))
+      ∷ ‵ (flft κ q) ∷ tokens ∷ []
 
   walk : ent 𝓤 (⋆ 𝓛 Had) (WpFn 𝓤 𝓛.H C Λ (function P) (vptr rb ro ∷ []) Post)
   walk = let code = (Sparse P).coded.code b in

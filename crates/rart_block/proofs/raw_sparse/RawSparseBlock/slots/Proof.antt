@@ -6,7 +6,8 @@ use Rattle.rart_block.proofs.Walk.{◌⊛◌, at_ret, ◌$◌, ◌∵◌, !, qed
 use Rattle.rart_block.proofs.Walk.{frame, done, fsplit, fjoin, feq_l, agg, addr, and_then, blocks, enter, exec, first}
 use Rattle.rart_block.proofs.Walk.{fld, hop, look, no_more, of_opd, returns, stop, alloc_all, env, free_all, get}
 use Rattle.rart_block.proofs.Walk.{look_at, pass_all, sets, sets_last, through, owns, number, hidden_shr}
-use Rattle.rart_block.proofs.Walk.{RefOf, yes, block_ptr, Bor, ShrRef, plain, nothing, Clauses, Ended, closing, on_entry}
+use Rattle.rart_block.proofs.Walk.{RefOf, yes, block_ptr, Bor, ShrRef, plain, nothing, Clauses, Ended, closing}
+use Rattle.rart_block.proofs.Walk.{on_entry}
 use Rattle.rart_block.proofs.Walk.{Meets, triple_of, entered, Stays, stay_dropped, walk_of, walk_Meets, ends_at, says}
 use Rattle.rart_block.proofs.Walk.{Goes-dropped, after}
 use denote.Ref.{NamedLft}

@@ -5,7 +5,8 @@ use Rattle.rart_block.proofs.Walk.{full_share, GName, Lft, Share, fat, fbor, flf
 use Rattle.rart_block.proofs.Walk.{emp, Memory, size, Routine, Calls, Env, Loops, Tables, WpFn, Fun, fact, fact_i, ◌⊑◌}
 use Rattle.rart_block.proofs.Walk.{tables, tables_of, WpFn-mono, Logic, Borrowed, Item, ⋆, ‵, raw, ◌⊛◌, some, at_ret}
 use Rattle.rart_block.proofs.Walk.{◌$◌, ◌∵◌, !, qed, by, move, keep, use0, use1, use2, split, join, pick, suffices}
-use Rattle.rart_block.proofs.Walk.{done, fsplit, fsplit3, fjoin, fjoin3, feq_i, feq_l, flt_i, flt_l, whole, sub, look_in}
+use Rattle.rart_block.proofs.Walk.{done, fsplit, fsplit3, fjoin, fjoin3, feq_i, feq_l, flt_i, flt_l, whole, sub}
+use Rattle.rart_block.proofs.Walk.{look_in}
 use Rattle.rart_block.proofs.Walk.{addr, bin, blocks, enter, exec, first, fld, load, look, of_opd, returns, size_lit}
 use Rattle.rart_block.proofs.Walk.{stop, well_typed, alloc_all, env, free_all, get, look_at, pass_all, sets, sets_last}
 use Rattle.rart_block.proofs.Walk.{through, part_out, owns, layout, number, mem, part_at, usize, yes, block_ptr, MutBor}

@@ -4,7 +4,8 @@ use Rattle.rart_block.proofs.Walk.{Ura, Fn, ty_array, inst_fn, Val, vstruct, vco
 use Rattle.rart_block.proofs.Walk.{Share, fat, flft, froom, ftrue, SProp, ent, apply∗, Memory, size, Routine, Calls}
 use Rattle.rart_block.proofs.Walk.{Env, Loops, Tables, WpFn, Fun, fact, ◌⊑◌, tables, tables_of, WpFn-mono, Logic, sem}
 use Rattle.rart_block.proofs.Walk.{Item, ⋆, ‵, ◌⊛◌, some, at_ret, ◌$◌, ◌∵◌, !, qed, by, move, keep, use1, use2, split}
-use Rattle.rart_block.proofs.Walk.{join, pick, rewrite, suffices, done, drop, fsplit, fsplit3, fjoin, whole, sub, agg, addr}
+use Rattle.rart_block.proofs.Walk.{join, pick, rewrite, suffices, done, drop, fsplit, fsplit3, fjoin, whole, sub, agg}
+use Rattle.rart_block.proofs.Walk.{addr}
 use Rattle.rart_block.proofs.Walk.{and_then, blocks, enter, exec, first, fld, load, look, no_more, of_opd, returns}
 use Rattle.rart_block.proofs.Walk.{stop, well_typed, alloc_all, env, free_all, get, get_in, look_at, pass_all, sets}
 use Rattle.rart_block.proofs.Walk.{sets_last, through, part_out, RattleType, owns, layout, number, no, yes}

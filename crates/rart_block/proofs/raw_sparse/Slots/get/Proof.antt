@@ -1,5 +1,6 @@
 -- `get` hands on the `&` to the item in a slot. Assumes `Logic`.
-use Rattle.rart_block.proofs.Walk.{◌≡◌, refl, sym, subst, List, [], ◌∷◌, ◌++◌, ℕ, ◌+◌, ◌*◌, ◌<◌, ◌^◌, arith, length, get_or}
+use Rattle.rart_block.proofs.Walk.{◌≡◌, refl, sym, subst, List, [], ◌∷◌, ◌++◌, ℕ, ◌+◌, ◌*◌, ◌<◌, ◌^◌, arith, length}
+use Rattle.rart_block.proofs.Walk.{get_or}
 use Rattle.rart_block.proofs.Walk.{Ura, Fn, Args, named, w64, inst_fn, Val, vint, vptr, Fml, Lft, Share, flft, ftrue}
 use Rattle.rart_block.proofs.Walk.{SProp, ent, never, Memory, Routine, Calls, Env, Loops, Tables, WpFn, Fun}
 use Rattle.rart_block.proofs.Walk.{fact, ◌⊑◌, tables, tables_of, WpFn-mono, Logic, sem, Item, ⋆, ‵, ◌⊛◌, at_ret, ◌$◌}

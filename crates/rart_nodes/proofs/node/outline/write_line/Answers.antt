@@ -20,13 +20,15 @@ returns g c =
     = record { ended = c.write_str-3.ensures.writes } in
     rw (← c.capacity.ensures, ← (c.to_slice.ensures ∙ c.prefix.ensures), ← c.value.ensures)
     (ends-front took _ _ _ _ _ _
-    (shows-ok took c.args.f.now f1 c.in_ok-write_indent.field-0 (Some (indent c.args.level)) c.in_ok-write_indent.ensures)
+    (shows-ok took c.args.f.now f1 c.in_ok-write_indent.field-0
+    (Some (indent c.args.level)) c.in_ok-write_indent.ensures)
     (ends-front took _ _ _ _ _ _
     (shows-ok took f1 f2 c.in_ok-write_kind.field-0 (Some (kind_text c.capacity.result)) c.in_ok-write_kind.ensures)
     (ends-front took _ _ _ _ _ _
     (shows-ok took f2 f3 c.in_ok-write_str.field-0 (Some (codes " \"")) c.in_ok-write_str.ensures.writes)
     (ends-front took _ _ _ _ _ _
-    (shows-ok took f3 f4 c.in_ok-write_bytes.field-0 (Some (key_text c.to_slice.result.now)) c.in_ok-write_bytes.ensures)
+    (shows-ok took f3 f4 c.in_ok-write_bytes.field-0
+    (Some (key_text c.to_slice.result.now)) c.in_ok-write_bytes.ensures)
     (ends-front took _ _ _ _ _ _
     (shows-ok took f4 f5 c.in_ok-write_str-2.field-0 (Some (codes "\"")) c.in_ok-write_str-2.ensures.writes)
     (ends-front took _ _ _ _ _ _
