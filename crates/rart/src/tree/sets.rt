@@ -4,6 +4,7 @@ ghost use Rattle.rart_keys.specs.Joins.{AreKeysOf, ShareNoKey};
 
 use crate::tree::AdaptiveRadixTree;
 use rart_keys::KeyTrait;
+use rart_nodes::Visits;
 
 impl<K: KeyTrait, V> AdaptiveRadixTree<K, V> {
     /// Returns whether each key of this tree is a key of `other`. The values don't count. Makes no key, allocates
@@ -11,11 +12,8 @@ impl<K: KeyTrait, V> AdaptiveRadixTree<K, V> {
     pub fn is_subset<W>(&self, other: &AdaptiveRadixTree<K, W>) -> bool
         ensures { IsTrue result ↔ AreKeysOf self.now.pairs other.now.pairs }
     {
-        self.canonical();
-        other.canonical();
-        rart_keys::laws::joins::<V, W>();
-        rart_keys::laws::joins::<W, V>();
-        self.len() <= other.len() && self.intersect_count(other) == self.len()
+        self.seen()
+            .is_subset_counted(self.len(), other.seen(), other.len(), &mut Visits::new())
     }
 
     /// Returns whether no key of this tree is a key of `other`. The values don't count. Makes no key, allocates
@@ -23,8 +21,7 @@ impl<K: KeyTrait, V> AdaptiveRadixTree<K, V> {
     pub fn is_disjoint<W>(&self, other: &AdaptiveRadixTree<K, W>) -> bool
         ensures { IsTrue result ↔ ShareNoKey self.now.pairs other.now.pairs }
     {
-        self.canonical();
-        rart_keys::laws::joins::<V, W>();
-        self.intersect_count(other) == 0
+        self.seen()
+            .is_disjoint_counted(other.seen(), &mut Visits::new())
     }
 }

@@ -59,10 +59,23 @@ fn views(left: &Tree, right: &Tree, wanted: &[Triple]) -> bool {
     answer.is_ok() && by_ref.is_ok() && given.all() && lent.all()
 }
 
+fn sets(left: &Tree, right: &Tree, wanted: &[Triple]) -> bool {
+    let one = left.seen::<Visits>();
+    let is_subset = one.is_subset_counted(
+        left.len(),
+        right.seen(),
+        right.len(),
+        &mut Visits::new(),
+    );
+    let is_disjoint = one.is_disjoint_counted(right.seen(), &mut Visits::new());
+    is_subset == (wanted.len() == left.len()) && is_disjoint == wanted.is_empty()
+}
+
 pub fn are_those_of_plain_calls(left: &Tree, right: &Tree, wanted: &[Triple]) -> bool {
     counts_and_values(left, right, wanted)
         && keys(left, right, wanted)
         && views(left, right, wanted)
+        && sets(left, right, wanted)
 }
 
 #[test]

@@ -16,6 +16,7 @@ ghost use Rattle.rart_trie.specs.tries.Trie.{children_in, no_children, pairs_of}
 
 pub(super) mod aligned;
 mod join_path;
+mod sets;
 mod shared_children;
 mod visitor;
 

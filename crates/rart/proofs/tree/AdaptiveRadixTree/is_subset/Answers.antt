@@ -1,23 +1,11 @@
-use Rattle.std.proofs.Common.{◌≡◌, ap, arith, length}
-use Rattle.std.proofs.lemmas.Bool.{leb-true}
-use Rattle.std.proofs.lemmas.List.{length-map}
-use Rattle.rart_keys.specs.Joins.{join, swapped_pairs}
+use Rattle.std.proofs.Common.{ap, length, ◌∙◌, sym}
 use Rattle.rart.proofs.tree.AdaptiveRadixTree.is_subset.Goals as goal
 
-pub returns-else-len : goal.returns-else-len
-returns-else-len g c =
-    let l = c.args.self.now.pairs in
-    let m = c.args.other.now.pairs in
-    let as_long : length (swapped_pairs (join l m)) ≡ length (join l m) = length-map (join l m) _ in (
-      λ t. absurd (omega (arith, c.if-len.false, leb-true _ _ t)),
-      λ h. absurd (omega (
-        arith,
-        c.if-len.false,
-        c.len.ensures.value,
-        c.len-2.ensures.value,
-        (c.joins.ensures.whole l m).1 h,
-        c.joins-2.ensures.join_length m l,
-        ap length (c.joins.ensures.other_way l m c.canonical.ensures.ascending c.canonical-2.ensures.ascending),
-        as_long,
-      )),
-    )
+pub is_subset_counted-requires : goal.is_subset_counted-requires
+is_subset_counted-requires g c = record {
+  len = c.len.ensures.value ∙ ap length (sym c.seen.ensures.pairs);
+  other_len = c.len-2.ensures.value ∙ ap length (sym c.seen-2.ensures.pairs);
+}
+
+pub returns : goal.returns
+returns g c = rw (← c.seen.ensures.pairs, ← c.seen-2.ensures.pairs) c.is_subset_counted.ensures.value
