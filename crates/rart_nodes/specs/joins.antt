@@ -1,11 +1,12 @@
 pub mod Alignments
 pub mod Given
 pub mod Intersections
-pub mod Visitors
+pub mod JoinPaths
 pub mod PairCalls
 pub mod SeenJoins
-pub mod SharedEdges
 pub mod SharedChildren
 pub mod SharedChildrenAhead
+pub mod SharedEdges
+pub mod TriedPairs
 pub mod ViewCalls
-pub mod JoinPaths
+pub mod Visitors

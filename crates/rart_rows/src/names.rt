@@ -125,6 +125,7 @@ pub enum Both {
     IntersectCount,
     IntersectValuesWith,
     IntersectWith,
+    TryIntersectWith,
     IntersectLendingWith,
 }
 

@@ -9,7 +9,7 @@ use crate::names::{
 pub type Entry = (&'static str, Call, &'static str);
 
 // Where two names are one call, the second is the word of the program `rart_script`.
-static NAMES: [Entry; 95] = [
+static NAMES: [Entry; 96] = [
     ("get", Call::Look(Look::Get), "k"),
     ("contains_key", Call::Look(Look::ContainsKey), "k"),
     (
@@ -136,6 +136,11 @@ static NAMES: [Entry; 95] = [
         "",
     ),
     ("intersect_with", Call::Both(Both::IntersectWith), ""),
+    (
+        "try_intersect_with",
+        Call::Both(Both::TryIntersectWith),
+        "c",
+    ),
     (
         "intersect_lending_with",
         Call::Both(Both::IntersectLendingWith),

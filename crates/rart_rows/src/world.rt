@@ -100,7 +100,7 @@ fn call_trees<K: KeyTrait + Drop>(
     let form = asked.form;
     match asked.row.call {
         Call::Many(name) => edit_many(alloc, tree, other, asked, name, answer),
-        Call::Both(name) => call_both(tree, other, name, form, answer),
+        Call::Both(name) => call_both(tree, other, name, asked.args().walk, form, answer),
         Call::Load(name) => load(alloc, tree, name, items, answer),
         _ if form == Form::Step => call_by_step(alloc, tree, asked, answer),
         _ => call_one(tree, asked, answer),

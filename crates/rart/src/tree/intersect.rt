@@ -6,11 +6,12 @@ ghost use Rattle.rart_nodes.specs.joins.PairCalls.{CallsAtEach, CallsAtEachByVal
 ghost use Rattle.rart_nodes.specs.joins.PairCalls.{CallsWithEachByValue, CanCallAt};
 ghost use Rattle.rart_nodes.specs.joins.PairCalls.{CanCallWith};
 ghost use Rattle.rart_nodes.specs.joins.SeenJoins.{MayLackBoth};
+ghost use Rattle.rart_nodes.specs.joins.TriedPairs.{CanTryAt, EndsVisitAt, EndsVisitAtByValue, MayStopForBoth};
 ghost use Rattle.rart_nodes.specs.joins.ViewCalls.{CanViewAt, ViewsAtEachByValue, ViewsAtEach};
 
 use crate::tree::AdaptiveRadixTree;
 use rart_keys::KeyTrait;
-use rart_nodes::{LendingKeyView, Visits};
+use rart_nodes::{LendingKeyView, VisitControl, VisitError, Visits};
 use rart_parts::TreeError;
 
 impl<K: KeyTrait, V> AdaptiveRadixTree<K, V> {
@@ -95,6 +96,48 @@ impl<K: KeyTrait, V> AdaptiveRadixTree<K, V> {
         self.seen()
             .intersect_with_counted(other.seen(), f, &mut Visits::new())
     }
+
+    /// Calls `f` with each key that both trees have, ascending, and its value in each tree. `Stop` ends the walk with
+    /// `Ok(())`. The caller keeps `f`.
+    ///
+    /// # Errors
+    ///
+    /// [`VisitError::Callback`] with the error that `f` returned, which ends the walk. [`VisitError::Memory`] if
+    /// neither tree is empty and the allocation for the walk fails; `f` is then not called.
+    pub fn try_intersect_with_by_ref<W, E, F: FnMut(K, &V, &W) -> Result<VisitControl, E>>(
+        &self,
+        other: &AdaptiveRadixTree<K, W>,
+        f: &mut F,
+    ) -> Result<(), VisitError<E>>
+        requires callable { CanTryAt F.FnMut K.bytes f.old (join self.now.pairs other.now.pairs) }
+        ensures stays_callable { F.IsAlwaysCallable f.old → F.IsAlwaysCallable f.new }
+        ensures calls { EndsVisitAt F.FnMut K.bytes f.old (join self.now.pairs other.now.pairs)
+            result f.new }
+        ensures memory { IfErr result (MayStopForBoth self.now.pairs other.now.pairs) }
+    {
+        self.seen()
+            .try_intersect_with_by_ref_counted(other.seen(), f, &mut Visits::new())
+    }
+
+    /// Calls `f` as [`try_intersect_with_by_ref`](Self::try_intersect_with_by_ref) does, and drops it.
+    ///
+    /// # Errors
+    ///
+    /// Those of [`try_intersect_with_by_ref`](Self::try_intersect_with_by_ref).
+    pub fn try_intersect_with<W, E, F: FnMut(K, &V, &W) -> Result<VisitControl, E> + Drop>(
+        &self,
+        other: &AdaptiveRadixTree<K, W>,
+        f: F,
+    ) -> Result<(), VisitError<E>>
+        requires callable { CanTryAt F.FnMut K.bytes f (join self.now.pairs other.now.pairs) }
+        ensures calls { EndsVisitAtByValue F.FnMut K.bytes f
+            (join self.now.pairs other.now.pairs) result }
+        ensures memory { IfErr result (MayStopForBoth self.now.pairs other.now.pairs) }
+    {
+        self.seen()
+            .try_intersect_with_counted(other.seen(), f, &mut Visits::new())
+    }
+
     /// Calls `f` with a view of each key that both trees have, ascending, and both values. The caller keeps `f`.
     ///
     /// A segment of the view is a stretch that the prefixes of both trees share, or the edge byte of the longer one.

@@ -1,7 +1,7 @@
 -- What an intersection has given at two nodes and at each pair of their children.
 use Rattle.std.proofs.Common.{◌≡◌, ℕ, ◌+◌, ◌<◌, ◌≤◌, min, List, [], ◌∷◌, ◌++◌, length, Option, Some, None, refl, arith}
-use Rattle.std.proofs.Common.{ap, subst, sym, ◌∙◌}
-use Rattle.std.proofs.lemmas.List.{append_assoc, length-map}
+use Rattle.std.proofs.Common.{ap, subst, sym, ◌∙◌, Result, Ok, Err}
+use Rattle.std.proofs.lemmas.List.{append-nil, append_assoc, length-map}
 use Rattle.std.specs.List.{FoldsTo}
 use Rattle.rart_keys.specs.Joins.{both}
 use Rattle.rart_keys.specs.SortedMap.{longest_key, values_of}
@@ -74,27 +74,51 @@ module _ {V W : Type 0} where
       let h' : AreWithin n m ((t, u) ∷ qs) = subst (λ (z : List (Trie V × Trie W)). AreWithin n m z) e h in
       record { falls = h'.0; short = h'.1; others = h'.2; visits = ap visits_all e; fewer = omega (arith, ap length e) }
 
-  module _ {F : Type 0} (reserved : Kept → ℕ → Type 0) (given : Kept → F → List (List ℕ × (V × W)) → F
-      → Type 0) (laws : AreVisitors reserved given) where
+  module _ {F B : Type 0} (reserved : Kept → ℕ → Type 0) (given : Kept → F → List (List ℕ × (V × W))
+      → Result (Unit {0}) B → F → Type 0) (laws : AreVisitors reserved given) where
     -- what was given at the same place
-    given-here : (s t : Kept) (f g : F) (es : List (List ℕ × (V × W))) → PathGrown s [] t → given t f es g
-        → given s f es g
-    given-here s t f g es h k = subst (λ (z : List (List ℕ × (V × W))). given s f z g) (prefix-none es)
-        (laws.gives_after s t [] f g es h k)
+    given-here : (s t : Kept) (f g : F) (es : List (List ℕ × (V × W))) (r : Result (Unit {0}) B) → PathGrown s [] t
+        → given t f es r g → given s f es r g
+    given-here s t f g es r h k = subst (λ (z : List (List ℕ × (V × W))). given s f z r g) (prefix-none es)
+        (laws.gives_after s t [] f g es r h k)
 
-    pub given-next : (s t : Kept) (f g h : F) (ps : List (Trie V × Trie W)) (a : Trie V) (b : Trie W)
-        (qs : List (Trie V × Trie W)) → ps ≡ (a, b) ∷ qs → PathGrown s [] t → given t f (intersect_nodes a b) g
-        → given s g (intersect_all qs) h → given s f (intersect_all ps) h
-    given-next s t f g h ps a b qs e w i j = rw e
-        (laws.gives_more s f g h (intersect_nodes a b) (intersect_all qs) (given-here s t f g (intersect_nodes a b) w i)
-        j)
+    pub given-next : (s t : Kept) (f g h : F) (r : Result (Unit {0}) B) (ps : List (Trie V × Trie W)) (a : Trie V)
+        (b : Trie W) (qs : List (Trie V × Trie W)) → ps ≡ (a, b) ∷ qs → PathGrown s [] t
+        → given t f (intersect_nodes a b) (Ok tt) g → given s g (intersect_all qs) r h
+        → given s f (intersect_all ps) r h
+    given-next s t f g h r ps a b qs e w i j = rw e
+        (laws.gives_more s f g h (intersect_nodes a b) (intersect_all qs) r
+        (given-here s t f g (intersect_nodes a b) (Ok tt) w i) j)
 
-    pub given-aligned : (s t : Kept) (f g h : F) (x : Trie V) (y : Trie W) (p : List ℕ) (a : Trie V) (b : Trie W)
-        → IsAligned x y p a b → PathGrown s p t
-        → given t f (own_pair (both (value_of a) (value_of b))) g
-        → given t g (intersect_all (shared_right a (children_in b))) h → given s f (intersect_nodes x y) h
-    given-aligned s t f g h x y p a b k w i j
-        = rw k.given (laws.gives_after s t p f h _ w (laws.gives_more t f g h _ _ i j))
+    -- the walk ended at the first two
+    pub given-end : (s t : Kept) (f g : F) (u : B) (ps : List (Trie V × Trie W)) (a : Trie V) (b : Trie W)
+        (qs : List (Trie V × Trie W)) → ps ≡ (a, b) ∷ qs → PathGrown s [] t → given t f (intersect_nodes a b) (Err u) g
+        → given s f (intersect_all ps) (Err u) g
+    given-end s t f g u ps a b qs e w i = rw e (laws.gives_end s f g (intersect_nodes a b) (intersect_all qs) u
+        (given-here s t f g (intersect_nodes a b) (Err u) w i))
+
+    pub given-aligned : (s t : Kept) (f g h : F) (r : Result (Unit {0}) B) (x : Trie V) (y : Trie W) (p : List ℕ)
+        (a : Trie V) (b : Trie W) → IsAligned x y p a b → PathGrown s p t
+        → given t f (own_pair (both (value_of a) (value_of b))) (Ok tt) g
+        → given t g (intersect_all (shared_right a (children_in b))) r h → given s f (intersect_nodes x y) r h
+    given-aligned s t f g h r x y p a b k w i j
+        = rw k.given (laws.gives_after s t p f h _ r w (laws.gives_more t f g h _ _ r i j))
+
+    -- the walk ended at the two nodes
+    pub given-ended : (s t : Kept) (f g : F) (u : B) (x : Trie V) (y : Trie W) (p : List ℕ) (a : Trie V) (b : Trie W)
+        → IsAligned x y p a b → PathGrown s p t → given t f (own_pair (both (value_of a) (value_of b))) (Err u) g
+        → given s f (intersect_nodes x y) (Err u) g
+    given-ended s t f g u x y p a b k w i
+        = rw k.given (laws.gives_after s t p f g _ (Err u) w (laws.gives_end t f g _ _ u i))
+
+    -- the two nodes have no child in common
+    pub given-leaves : (s t : Kept) (f g : F) (r : Result (Unit {0}) B) (x : Trie V) (y : Trie W) (p : List ℕ)
+        (a : Trie V) (b : Trie W) → IsAligned x y p a b → PathGrown s p t → children_in b ≡ no_children
+        → given t f (own_pair (both (value_of a) (value_of b))) r g → given s f (intersect_nodes x y) r g
+    given-leaves s t f g r x y p a b k w n i =
+        let own : List (List ℕ × (V × W)) = own_pair (both (value_of a) (value_of b)) in
+        rw (k.given, n) (laws.gives_after s t p f g (own ++ []) r w
+        (subst (λ (z : List (List ℕ × (V × W))). given t f z r g) (sym (append-nil own)) i))
 
     pub same-reserved : (s t : Kept) (m n : ℕ) → PathGrown s [] t → reserved s m → n ≤ m → reserved t n
     same-reserved s t m n h k i = laws.keeps_reserved s t [] m n h k (omega arith)
@@ -112,10 +136,11 @@ module _ {V W : Type 0} where
       }
 
       pub can-rest : (s : Kept) (f g : F) (xs ys : List (List ℕ × (V × W))) → CanGive can given s f (xs ++ ys)
-          → given s f xs g → CanGive can given s g ys
+          → given s f xs (Ok tt) g → CanGive can given s g ys
       can-rest s f g xs ys h r = record {
         at = λ before x after j e k. h.at (xs ++ before) x after j
-            (ap (λ z. xs ++ z) e ∙ sym (append_assoc xs before (x ∷ after))) (laws.gives_more s f g j xs before r k);
+            (ap (λ z. xs ++ z) e ∙ sym (append_assoc xs before (x ∷ after)))
+            (laws.gives_more s f g j xs before (Ok tt) r k);
       }
 
       module _ (deeper : CanDeeper can) where
@@ -124,7 +149,7 @@ module _ {V W : Type 0} where
         can-after s t p f es w h = record {
           at = λ before x after g e k. deeper s t p g x w
               (h.at (with_prefix p before) (p ++ x.0, x.1) (with_prefix p after) g (ap (λ z. with_prefix p z) e
-              ∙ prefix-append p before (x ∷ after)) (laws.gives_after s t p f g before w k));
+              ∙ prefix-append p before (x ∷ after)) (laws.gives_after s t p f g before (Ok tt) w k));
         }
 
         pub can-aligned : (s t : Kept) (f : F) (x : Trie V) (y : Trie W) (p : List ℕ) (a : Trie V) (b : Trie W)
@@ -147,11 +172,12 @@ module _ {V W : Type 0} where
             (sym (prefix-none (intersect_nodes a b))) first)
 
         pub can-others : (s t : Kept) (f g : F) (ps : List (Trie V × Trie W)) (a : Trie V) (b : Trie W)
-            (qs : List (Trie V × Trie W)) → ps ≡ (a, b) ∷ qs → PathGrown s [] t → given t f (intersect_nodes a b) g
-            → CanGive can given s f (intersect_all ps) → CanGive can given s g (intersect_all qs)
+            (qs : List (Trie V × Trie W)) → ps ≡ (a, b) ∷ qs → PathGrown s [] t
+            → given t f (intersect_nodes a b) (Ok tt) g → CanGive can given s f (intersect_all ps)
+            → CanGive can given s g (intersect_all qs)
         can-others s t f g ps a b qs e w i h = can-rest s f g (intersect_nodes a b) (intersect_all qs)
             (subst (λ (z : List (Trie V × Trie W)). CanGive can given s f (intersect_all z)) e h)
-            (given-here s t f g (intersect_nodes a b) w i)
+            (given-here s t f g (intersect_nodes a b) (Ok tt) w i)
 
 -- a path that grows and is cut back
 pub back-again : (s t u v : Kept) (p : List ℕ) (m : ℕ) → m ≡ path_mark s → PathGrown s p t → PathGrown t [] u

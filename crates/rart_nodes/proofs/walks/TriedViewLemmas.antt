@@ -59,7 +59,7 @@ module _ {F X E : Type 0} (R : F → X → Result VisitControl E → F → Type 
     keeps-on f (Ok Stop) M r f' more k h = subst P k.1 h
     keeps-on f (Err e) M r f' more k h = subst P k.1 h
 
-    ends-keep : (f : F) (xs : List X) (r : Result (Unit {0}) E) (f' : F) → EndsBy R f xs r f' → P f → P f'
+    pub ends-keep : (f : F) (xs : List X) (r : Result (Unit {0}) E) (f' : F) → EndsBy R f xs r f' → P f → P f'
     ends-keep f [] r f' k h = subst P k.1 h
     ends-keep f (x ∷ xs) r f' k h = keeps-on k.1.0 k.0 (λ j. EndsBy R j xs r f') r f'
         (λ m i. ends-keep k.1.0 xs r f' m i) k.1.1.1 (keeps f x k.0 k.1.0 k.1.1.0 h)

@@ -9,24 +9,30 @@ pub use Rattle.rart_nodes.specs.joins.Given.{
   CanGiveViews,
   CountedOn,
   GivenKeys,
+  GivenTried,
   GivenValues,
   GivenViews,
   KeyReserved,
   KeysReserved,
+  Throughout,
   ViewReserved,
   ViewsReserved,
   most_count,
 }
-use Rattle.std.specs.Prelude.{ℕ, ◌≡◌, ◌+◌, ◌≤◌, List, [], ◌∷◌, ◌++◌, length, vec_capacity, Option, Some, None}
+use Rattle.std.specs.Prelude.{ℕ, ◌≡◌, ◌+◌, ◌≤◌, List, [], ◌∷◌, ◌++◌, length, vec_capacity, Option, Some, None, Result}
+use Rattle.std.specs.Prelude.{Ok, Err}
 use Rattle.std.specs.Borrow.{Bor}
 use Rattle.std.specs.Global.{Vec}
-use Rattle.std.proofs.Common.{refl, arith, ap, ◌∙◌, length-append, append_assoc}
+use Rattle.std.proofs.Common.{refl, arith, ap, sym, ◌∙◌, length-append, append_assoc}
 use Rattle.std.proofs.lemmas.List.{length-map}
 use Rattle.std.specs.List.{FoldsTo}
 use Rattle.rart_keys.specs.KeyBytes.{IsWithin}
 use Rattle.rart_keys.specs.SortedMap.{values_of}
 use Rattle.rart_nodes.specs.declared.node.intersect.join_path.JoinPath.TheVariants.{Nothing, Bytes, Segments}
+use Rattle.rart_nodes.specs.declared.node.walks.control.VisitControl.{VisitControl}
+use Rattle.rart_nodes.specs.declared.node.walks.control.VisitControl.TheVariants.{Continue, Stop}
 use Rattle.rart_nodes.specs.joins.JoinPaths.{Kept, PathReserved, PathGrown, BytesGrown, SegmentsGrown}
+use Rattle.rart_nodes.specs.joins.TriedPairs.{TriedOn, TriesEach}
 use Rattle.rart_trie.specs.tries.PrefixLaws.{prefix-append, prefix-twice, values-append, values-with_prefix}
 use Rattle.rart_trie.specs.tries.Trie.{with_prefix}
 use Rattle.rart_nodes.specs.walks.SegmentLaws.{full-append, joined-append, many-joined}
@@ -79,14 +85,32 @@ path-reserved (Segments k) (Segments l) p m n a b c = segments_reserved k l p m 
 pub can_values : {F X : Type 0} (q : F → X → Type 0) → CanDeeper (CanGiveValues q)
 can_values q s t p f x w h = h
 
-pub give_values : {F X : Type 0} (r : F → X → F → Type 0) → AreVisitors PathReserved (GivenValues r)
-give_values r = record {
-  holds = λ s n h. h;
-  keeps_reserved = path-reserved;
-  gives_none = λ s f. refl;
-  gives_more = λ s f g h xs ys a b. rw (values-append xs ys) (folds-append r f g h (values_of xs) (values_of ys) a b);
-  gives_after = λ s t p f g es a b. rw (values-with_prefix p es) b;
+err-ok : {A B : Type 0} (a : A) (b : B) → ◌≡◌ {A = Result A B} (Err b) (Ok a) → ⊥
+err-ok a b h = cc
+
+-- a visitor that ends no walk, by what it gives
+throughout : {F X B : Type 0} (reserved : Kept → ℕ → Type 0) (given : Kept → F → List (List ℕ × X) → F → Type 0)
+    → ((s : Kept) (n : ℕ) → reserved s n → PathReserved s n)
+    → ((s t : Kept) (p : List ℕ) (m n : ℕ) → PathGrown s p t → reserved s m → length p + n ≤ m → reserved t n)
+    → ((s : Kept) (f : F) → given s f [] f)
+    → ((s : Kept) (f g h : F) (xs ys : List (List ℕ × X)) → given s f xs g → given s g ys h → given s f (xs ++ ys) h)
+    → ((s t : Kept) (p : List ℕ) (f g : F) (es : List (List ℕ × X)) → PathGrown s p t → given t f es g
+    → given s f (with_prefix p es) g)
+    → AreVisitors {B = B} reserved (Throughout given)
+throughout reserved given holds keeps none more after = record {
+  holds = holds;
+  keeps_reserved = keeps;
+  gives_none = λ s f. (refl, none s f);
+  gives_more = λ s f g h xs ys r a b. (b.0, more s f g h xs ys a.1 b.1);
+  gives_end = λ s f g xs ys b a. absurd (err-ok tt b a.0);
+  gives_after = λ s t p f g es r w b. (b.0, after s t p f g es w b.1);
 }
+
+pub give_values : {F X B : Type 0} (r : F → X → F → Type 0)
+    → AreVisitors {B = B} PathReserved (Throughout (GivenValues r))
+give_values r = throughout PathReserved (GivenValues r) (λ s n h. h) path-reserved (λ s f. refl)
+    (λ s f g h xs ys a b. rw (values-append xs ys) (folds-append r f g h (values_of xs) (values_of ys) a b))
+    (λ s t p f g es a b. rw (values-with_prefix p es) b)
 
 keys-hold : (most : Option ℕ) (s : Kept) (n : ℕ) → KeysReserved most s n → PathReserved s n
 keys-hold most Nothing n h = absurd h
@@ -136,16 +160,95 @@ can_keys q (Segments k) Nothing p f x w h = tt
 can_keys q (Segments k) (Bytes l) p f x w h = absurd w
 can_keys q (Segments k) (Segments l) p f x w h = tt
 
-pub give_keys : {F X : Type 0} (most : Option ℕ) (r : F → List ℕ × X → F → Type 0)
-    → AreVisitors (KeysReserved most) (GivenKeys r)
-give_keys most r = record {
-  holds = keys-hold most;
-  keeps_reserved = keys-reserved most;
-  gives_none = keys-none r;
-  gives_more
-      = keys-more r;
-  gives_after = keys-after r;
-}
+pub give_keys : {F X B : Type 0} (most : Option ℕ) (r : F → List ℕ × X → F → Type 0)
+    → AreVisitors {B = B} (KeysReserved most) (Throughout (GivenKeys r))
+give_keys most r = throughout (KeysReserved most) (GivenKeys r) (keys-hold most) (keys-reserved most) (keys-none r)
+    (keys-more r) (keys-after r)
+
+-- until one of the pairs ends the walk
+module _ {F X E : Type 0} (R : F → X → Result VisitControl E → F → Type 0) where
+  tried-more : (answer : Result VisitControl E) (f : F) (M N : F → Type 0)
+      (r : Result (Unit {0}) (Result (Unit {0}) E)) (g h : F) → (M f → N f) → TriedOn answer f M (Ok tt) g
+      → TriedOn answer f N r h
+  tried-more (Ok Continue) f M N r g h more a = more a
+  tried-more (Ok Stop) f M N r g h more a = absurd (err-ok tt (Ok tt) (sym a.0))
+  tried-more (Err e) f M N r g h more a = absurd (err-ok tt (Err e) (sym a.0))
+
+  tries-append : (f g h : F) (xs ys : List X) (r : Result (Unit {0}) (Result (Unit {0}) E))
+      → TriesEach R f xs (Ok tt) g → TriesEach R g ys r h → TriesEach R f (xs ++ ys) r h
+  tries-append f g h [] ys r a b = rw a.1 b
+  tries-append f g h (x ∷ xs) ys r a b = (
+    a.0,
+    (
+      a.1.0,
+      (
+        a.1.1.0,
+        tried-more a.0 a.1.0 (λ j. TriesEach R j xs (Ok tt) g) (λ j. TriesEach R j (xs ++ ys) r h) r g h
+            (λ m. tries-append a.1.0 g h xs ys r m b) a.1.1.1,
+      ),
+    ),
+  )
+
+  tried-end : (answer : Result VisitControl E) (f : F) (M N : F → Type 0)
+      (r : Result (Unit {0}) (Result (Unit {0}) E)) (g : F) → (M f → N f) → TriedOn answer f M r g
+      → TriedOn answer f N r g
+  tried-end (Ok Continue) f M N r g more a = more a
+  tried-end (Ok Stop) f M N r g more a = a
+  tried-end (Err e) f M N r g more a = a
+
+  tries-end : (f g : F) (xs ys : List X) (b : Result (Unit {0}) E) → TriesEach R f xs (Err b) g
+      → TriesEach R f (xs ++ ys) (Err b) g
+  tries-end f g [] ys b a = absurd (err-ok tt b a.0)
+  tries-end f g (x ∷ xs) ys b a = (
+    a.0,
+    (
+      a.1.0,
+      (
+        a.1.1.0,
+        tried-end a.0 a.1.0 (λ j. TriesEach R j xs (Err b) g) (λ j. TriesEach R j (xs ++ ys) (Err b) g) (Err b) g
+            (λ m. tries-end a.1.0 g xs ys b m) a.1.1.1,
+      ),
+    ),
+  )
+
+module _ {F X E : Type 0} (R : F → List ℕ × X → Result VisitControl E → F → Type 0) where
+  tried-none : (s : Kept) (f : F) → GivenTried R s f [] (Ok tt) f
+  tried-none Nothing f = tt
+  tried-none (Bytes k) f = (refl, refl)
+  tried-none (Segments k) f = tt
+
+  tried-both : (s : Kept) (f g h : F) (xs ys : List (List ℕ × X)) (r : Result (Unit {0}) (Result (Unit {0}) E))
+      → GivenTried R s f xs (Ok tt) g → GivenTried R s g ys r h → GivenTried R s f (xs ++ ys) r h
+  tried-both Nothing f g h xs ys r a b = tt
+  tried-both (Bytes k) f g h xs ys r a b = rw (prefix-append k.items xs ys)
+      (tries-append R f g h (with_prefix k.items xs) (with_prefix k.items ys) r a b)
+  tried-both (Segments k) f g h xs ys r a b = tt
+
+  tried-ends : (s : Kept) (f g : F) (xs ys : List (List ℕ × X)) (b : Result (Unit {0}) E)
+      → GivenTried R s f xs (Err b) g → GivenTried R s f (xs ++ ys) (Err b) g
+  tried-ends Nothing f g xs ys b a = tt
+  tried-ends (Bytes k) f g xs ys b a = rw (prefix-append k.items xs ys)
+      (tries-end R f g (with_prefix k.items xs) (with_prefix k.items ys) b a)
+  tried-ends (Segments k) f g xs ys b a = tt
+
+  tried-after : (s t : Kept) (p : List ℕ) (f g : F) (es : List (List ℕ × X))
+      (r : Result (Unit {0}) (Result (Unit {0}) E)) → PathGrown s p t → GivenTried R t f es r g
+      → GivenTried R s f (with_prefix p es) r g
+  tried-after Nothing t p f g es r a b = tt
+  tried-after (Segments k) t p f g es r a b = tt
+  tried-after (Bytes k) Nothing p f g es r a b = absurd a
+  tried-after (Bytes k) (Segments l) p f g es r a b = absurd a
+  tried-after (Bytes k) (Bytes l) p f g es r a b = rw (prefix-twice k.items p es, ← a.bytes) b
+
+  pub give_tried : (most : Option ℕ) → AreVisitors (KeysReserved most) (GivenTried R)
+  give_tried most = record {
+    holds = keys-hold most;
+    keeps_reserved = keys-reserved most;
+    gives_none = tried-none;
+    gives_more = tried-both;
+    gives_end = tried-ends;
+    gives_after = tried-after;
+  }
 
 views-hold : (s : Kept) (n : ℕ) → ViewsReserved s n → PathReserved s n
 views-hold Nothing n h = absurd h
@@ -213,12 +316,7 @@ can_views q (Segments k) (Segments l) p f x w h =
     ∙ joined-append (lent_segments k.items) w.more ∙ ap (λ z. joined_bytes (lent_segments k.items) ++ z) w.bytes in
     rw (whole, append_assoc (joined_bytes (lent_segments k.items)) p x.0) h
 
-pub give_views : {F X : Type 0} (r : F → List ℕ × X → F → Type 0) → AreVisitors ViewsReserved (GivenViews r)
-give_views r = record {
-  holds = views-hold;
-  keeps_reserved = views-reserved;
-  gives_none = views-none r;
-  gives_more
-      = views-more r;
-  gives_after = views-after r;
-}
+pub give_views : {F X B : Type 0} (r : F → List ℕ × X → F → Type 0)
+    → AreVisitors {B = B} ViewsReserved (Throughout (GivenViews r))
+give_views r = throughout ViewsReserved (GivenViews r) views-hold views-reserved (views-none r) (views-more r)
+    (views-after r)

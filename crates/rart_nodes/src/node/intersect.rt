@@ -18,6 +18,7 @@ pub(super) mod aligned;
 mod join_path;
 mod sets;
 mod shared_children;
+mod try_pairs;
 mod visitor;
 
 use crate::node::intersect::aligned::{next_aligned, same_prefixes};
@@ -29,14 +30,15 @@ use crate::node::view::LendingKeyView;
 use rart_keys::{KeyTrait, Partial};
 use rart_parts::TreeError;
 use rart_trie::{Count, Paired};
+use std::convert::Infallible;
 
 /// Passes on the pair of two visited leaves if their prefixes are equal, and restores the path.
-fn intersect_leaves<'a, P: Partial, V, W, C: Count, F, T: Visitor<V, W, F>>(
+fn intersect_leaves<'a, P: Partial, V, W, C: Count, F, B, T: Visitor<V, W, F, B>>(
     left: Entered<'a, P, V, C>,
     right: Entered<'_, P, W, Paired<C>>,
     path: &mut JoinPath<'a>,
     f: &mut F,
-)
+) -> Result<(), B>
     requires left_leaf { children_in left.node.now ≡ no_children }
     requires right_leaf { children_in right.node.now ≡ no_children }
     requires reserved { T.reserved path.old (longest_key (pairs_of left.node.now)) }
@@ -44,43 +46,49 @@ fn intersect_leaves<'a, P: Partial, V, W, C: Count, F, T: Visitor<V, W, F>>(
         (intersect_nodes left.node.now right.node.now) }
     ensures place { PathGrown path.old [] path.new }
     ensures calls { T.given path.old f.old
-        (intersect_nodes left.entry.node.now right.entry.node.now) f.new }
+        (intersect_nodes left.entry.node.now right.entry.node.now) result f.new }
 {
     if !same_prefixes(left.prefix(), right.prefix()) {
-        return;
+        return Ok(());
     }
     let mark = path.mark();
     path.grow(left.prefix().to_slice());
-    give_both::<V, W, F, T>(left.value(), right.value(), path, f);
+    let given = give_both::<V, W, F, B, T>(left.value(), right.value(), path, f);
     path.cut(mark);
+    given
 }
 
-/// Visits the pairs of both trees below two visited nodes and restores the path.
-fn intersect_below<'a, P: Partial, V, W, C: Count, F, T: Visitor<V, W, F>>(
+/// Visits the pairs of both trees below two visited nodes and restores the path. Ends with the first `Err` of a pair.
+fn intersect_below<'a, P: Partial, V, W, C: Count, F, B, T: Visitor<V, W, F, B>>(
     left: Entered<'a, P, V, C>,
     right: Entered<'_, P, W, Paired<C>>,
     path: &mut JoinPath<'a>,
     counter: &mut C,
     f: &mut F,
-)
+) -> Result<(), B>
     requires reserved { T.reserved path.old (longest_key (pairs_of left.node.now)) }
     requires callable { CanGive T.can T.given path.old f.old
         (intersect_nodes left.node.now right.node.now) }
-    ensures place { PathGrown path.old [] path.new }
+    ensures place { OnOk result (PathGrown path.old [] path.new) }
     ensures calls { T.given path.old f.old
-        (intersect_nodes left.entry.node.now right.entry.node.now) f.new }
-    ensures visits { C.number counter.new ≡ C.number counter.old
+        (intersect_nodes left.entry.node.now right.entry.node.now) result f.new }
+    ensures visits { OnOk result (C.number counter.new ≡ C.number counter.old
+        + more_visits left.entry.node.now right.entry.node.now) }
+    ensures bound { C.number counter.new ≤ C.number counter.old
         + more_visits left.entry.node.now right.entry.node.now }
 {
     let mark = path.mark();
     let Some((left_aligned, right_aligned)) = next_aligned(left, right, path, counter) else {
         path.cut(mark);
-        return;
+        return Ok(());
     };
-    give_both::<V, W, F, T>(left_aligned.value(), right_aligned.value(), path, f);
+    match give_both::<V, W, F, B, T>(left_aligned.value(), right_aligned.value(), path, f) {
+        Ok(()) => {}
+        Err(end) => return Err(end),
+    }
     if right_aligned.has_no_children() {
         path.cut(mark);
-        return;
+        return Ok(());
     }
     let mut shared_children = SharedChildren::of(left_aligned, right_aligned);
     while let Some((child, other)) = shared_children.enter_next(
@@ -90,12 +98,19 @@ fn intersect_below<'a, P: Partial, V, W, C: Count, F, T: Visitor<V, W, F>>(
     ) {
         // Most children are leaves, which need no recursion.
         if child.has_no_children() && other.has_no_children() {
-            intersect_leaves::<P, V, W, C, F, T>(child, other, path, f);
+            match intersect_leaves::<P, V, W, C, F, B, T>(child, other, path, f) {
+                Ok(()) => {}
+                Err(end) => return Err(end),
+            }
         } else {
-            intersect_below::<P, V, W, C, F, T>(child, other, path, counter, f);
+            match intersect_below::<P, V, W, C, F, B, T>(child, other, path, counter, f) {
+                Ok(()) => {}
+                Err(end) => return Err(end),
+            }
         }
     }
     path.cut(mark);
+    Ok(())
 }
 
 /// The topmost nodes of two trees, not yet visited.
@@ -114,30 +129,32 @@ fn both_tops<'a, 'b, K: KeyTrait, V, W, C>(
     Some((left_top, right_top))
 }
 
-/// Visits the pairs of both trees, from their topmost nodes on. The path has capacity for the longest key of the left
-/// one, and no more.
-fn intersect_trees<'a, 'b, K: KeyTrait, V, W, C: Count, F, T: Visitor<V, W, F>>(
+/// Visits the pairs of both trees, from their topmost nodes on, up to the first `Err` of a pair. The path has capacity
+/// for the longest key of the left one, and no more.
+fn intersect_trees<'a, 'b, K: KeyTrait, V, W, C: Count, F, B, T: Visitor<V, W, F, B>>(
     left: Seen<'a, K, V, C>,
     right: Seen<'b, K, W, Paired<C>>,
     tops: Tops<'a, 'b, K::PartialType, V, W, C>,
     path: &mut JoinPath<'a>,
     counter: &mut C,
     f: &mut F,
-)
+) -> Result<(), B>
     requires tops { AreTops left tops.0.node.now right tops.1.node.now }
     requires reserved { T.reserved path.old (longest_key (seen_pairs left)) }
     requires capacity { HasCapacityOf (length_bound left) path.old }
     requires callable { CanGive T.can T.given path.old f.old (seen_join left right) }
     ensures calls { T.given path.old f.old
-        (join (seen_pairs left.entry) (seen_pairs right.entry)) f.new }
-    ensures visits { C.number counter.new
-        ≡ C.number counter.old + joint_visits (seen_keys left.entry) (seen_keys right.entry) }
+        (join (seen_pairs left.entry) (seen_pairs right.entry)) result f.new }
+    ensures visits { OnOk result (C.number counter.new
+        ≡ C.number counter.old + joint_visits (seen_keys left.entry) (seen_keys right.entry)) }
+    ensures at_most { C.number counter.new
+        ≤ C.number counter.old + joint_visits (seen_keys left.entry) (seen_keys right.entry) }
     ensures bound { C.number counter.new ≤ C.number counter.old
         + (length (seen_nodes left.entry) + length (seen_nodes right.entry) - 1) }
 {
     // `left` and `right` are named by the contract alone.
     let (left_root, right_root) = tops.0.enter_pair(tops.1, counter);
-    intersect_below::<K::PartialType, V, W, C, F, T>(left_root, right_root, path, counter, f);
+    intersect_below::<K::PartialType, V, W, C, F, B, T>(left_root, right_root, path, counter, f)
 }
 
 impl<'a, K: KeyTrait, V, C: Count> Seen<'a, K, V, C> {
@@ -162,15 +179,16 @@ impl<'a, K: KeyTrait, V, C: Count> Seen<'a, K, V, C> {
             return 0;
         };
         let mut count = 0;
-        intersect_trees::<K, V, W, C, usize, Counted>(
+        match intersect_trees::<K, V, W, C, usize, Infallible, Counted>(
             self,
             other,
             tops,
             &mut JoinPath::Nothing,
             counter,
             &mut count,
-        );
-        count
+        ) {
+            Ok(()) => count,
+        }
     }
 
     /// Calls `f` once for each key of both trees, ascending, with the values of this tree and of `other`. It makes no
@@ -198,7 +216,11 @@ impl<'a, K: KeyTrait, V, C: Count> Seen<'a, K, V, C> {
             return;
         };
         let mut path = JoinPath::Nothing;
-        intersect_trees::<K, V, W, C, F, ByValues>(self, other, tops, &mut path, counter, f);
+        match intersect_trees::<K, V, W, C, F, Infallible, ByValues>(
+            self, other, tops, &mut path, counter, f,
+        ) {
+            Ok(()) => {}
+        }
     }
 
     /// Calls `f` as [`intersect_values_with_by_ref_counted`](Self::intersect_values_with_by_ref_counted) does, and
@@ -259,8 +281,11 @@ impl<'a, K: KeyTrait, V, C: Count> Seen<'a, K, V, C> {
         };
         let bytes = Vec::with_capacity(self.alloc(), self.longest())?;
         let mut path = JoinPath::Bytes(bytes);
-        intersect_trees::<K, V, W, C, F, ByKeys<K>>(self, other, tops, &mut path, counter, f);
-        Ok(())
+        match intersect_trees::<K, V, W, C, F, Infallible, ByKeys<K>>(
+            self, other, tops, &mut path, counter, f,
+        ) {
+            Ok(()) => Ok(()),
+        }
     }
 
     /// Calls `f` as [`intersect_with_by_ref_counted`](Self::intersect_with_by_ref_counted) does, and drops it.
@@ -329,8 +354,11 @@ impl<'a, K: KeyTrait, V, C: Count> Seen<'a, K, V, C> {
         };
         let segments = Vec::with_capacity(self.alloc(), self.longest())?;
         let mut path = JoinPath::Segments(segments);
-        intersect_trees::<K, V, W, C, F, ByViews>(self, other, tops, &mut path, counter, f);
-        Ok(())
+        match intersect_trees::<K, V, W, C, F, Infallible, ByViews>(
+            self, other, tops, &mut path, counter, f,
+        ) {
+            Ok(()) => Ok(()),
+        }
     }
 
     /// Calls `f` as [`intersect_lending_with_by_ref_counted`](Self::intersect_lending_with_by_ref_counted) does, and

@@ -1,10 +1,12 @@
 //! Calls on both trees.
 
 use crate::answer::Answer;
+use crate::calls::callbacks::{control, put_tried};
 use crate::form::Form;
 use crate::names::Both;
+use crate::request::Walk;
 use crate::world::Tree;
-use rart::{KeyTrait, LendingKeyView, Refused, TreeError};
+use rart::{KeyTrait, LendingKeyView, Refused, TreeError, VisitError};
 use std::mem;
 
 /// What an append returns: a refused pair that neither side took follows the error.
@@ -80,6 +82,26 @@ fn with_keys<K: KeyTrait + Drop>(
     }
 }
 
+fn try_with_keys<K: KeyTrait + Drop>(
+    tree: &Tree<K>,
+    other: &Tree<K>,
+    walk: Walk,
+    form: Form,
+    answer: &mut Answer,
+) -> Result<(), VisitError<u64>> {
+    let mut call = 0_u64;
+    let mut show = |key: K, left: &u64, right: &u64| {
+        call = call.wrapping_add(1);
+        answer.pair_of_two(key.as_ref(), *left, *right);
+        control(walk, call)
+    };
+    if form.lends() {
+        tree.try_intersect_with_by_ref(other, &mut show)
+    } else {
+        tree.try_intersect_with(other, show)
+    }
+}
+
 fn with_views<K: KeyTrait>(
     tree: &Tree<K>,
     other: &Tree<K>,
@@ -101,6 +123,7 @@ fn intersect<K: KeyTrait + Drop>(
     tree: &Tree<K>,
     other: &Tree<K>,
     both: Both,
+    walk: Walk,
     form: Form,
     answer: &mut Answer,
 ) {
@@ -112,6 +135,10 @@ fn intersect<K: KeyTrait + Drop>(
         Both::IntersectWith => {
             let walked = with_keys(tree, other, form, answer);
             put_walked(walked, answer);
+        }
+        Both::TryIntersectWith => {
+            let tried = try_with_keys(tree, other, walk, form, answer);
+            put_tried(tried, answer);
         }
         Both::IntersectLendingWith => {
             let walked = with_views(tree, other, form, answer);
@@ -126,6 +153,7 @@ pub fn call_both<K: KeyTrait + Drop>(
     tree: &mut Tree<K>,
     other: &mut Tree<K>,
     both: Both,
+    walk: Walk,
     form: Form,
     answer: &mut Answer,
 ) {
@@ -136,6 +164,6 @@ pub fn call_both<K: KeyTrait + Drop>(
         Both::Swap => swap(tree, other, answer),
         Both::IsSubset => answer.truth(tree.is_subset(other)),
         Both::IsDisjoint => answer.truth(tree.is_disjoint(other)),
-        _ => intersect(tree, other, both, form, answer),
+        _ => intersect(tree, other, both, walk, form, answer),
     }
 }

@@ -1,7 +1,7 @@
-use Rattle.std.proofs.Common.{[], arith}
+use Rattle.std.proofs.Common.{[], Ok, arith}
 use Rattle.rart_nodes.proofs.joins.VisitorLemmas.{back-again, can-aligned, can-next, can-others, can-rest, can-start}
-use Rattle.rart_nodes.proofs.joins.VisitorLemmas.{given-aligned, given-next, next-shared_children, same-reserved}
-use Rattle.rart_nodes.proofs.joins.VisitorLemmas.{shared_children-within}
+use Rattle.rart_nodes.proofs.joins.VisitorLemmas.{given-aligned, given-end, given-ended, given-leaves, given-next}
+use Rattle.rart_nodes.proofs.joins.VisitorLemmas.{next-shared_children, same-reserved, shared_children-within}
 use Rattle.rart_nodes.proofs.joins.JoinPathLemmas.{path-stays, path-on}
 use Rattle.rart_nodes.proofs.joins.LeafPairs.{leaves-unvisited}
 use Rattle.rart_nodes.proofs.node.intersect.+intersect_below.Goals as goal
@@ -23,6 +23,16 @@ give_both-requires-clause-callable g t c =
     rw (c.value.ensures, c.value-2.ensures) (can-start _ _ laws _ _ _ _ _
     (can-aligned _ _ laws _ g.met.T.Visitor.deeper _ _ _ _ _ found.0 _ _ found.2 found.1 c.requires.callable))
 
+-- the pair of the two nodes ended the walk
+pub returns-in-Err-clause-calls : goal.returns-in-Err-clause-calls
+returns-in-Err-clause-calls g t c =
+    let found = c.in-Some.ensures.aligned in
+    let here = rw (c.value.ensures, c.value-2.ensures) at c.in-Err.ensures.calls in
+    given-ended _ _ g.met.T.Visitor.lawful _ _ _ _ _ _ _ found.0 _ _ found.2 found.1 here
+
+pub returns-in-Err-clause-bound : goal.returns-in-Err-clause-bound
+returns-in-Err-clause-bound g t c = omega (arith, c.in-Some.ensures.visits)
+
 pub returns-then-has_no_children-clause-place : goal.returns-then-has_no_children-clause-place
 returns-then-has_no_children-clause-place g t c =
     let found = c.in-Some.ensures.aligned in
@@ -30,14 +40,17 @@ returns-then-has_no_children-clause-place g t c =
 
 pub returns-then-has_no_children-clause-calls : goal.returns-then-has_no_children-clause-calls
 returns-then-has_no_children-clause-calls g t c =
-    let laws = g.met.T.Visitor.lawful in
     let found = c.in-Some.ensures.aligned in
-    let here = rw (c.value.ensures, c.value-2.ensures) at c.give_both.ensures.calls in
-    given-aligned _ _ laws _ _ _ _ _ _ _ found.0 _ _ found.2 found.1 here
-    (rw (c.has_no_children.ensures.0 c.if-has_no_children.true) (laws.gives_none _ _))
+    let here = rw (c.value.ensures, c.value-2.ensures) at c.in-Ok.ensures.calls in
+    given-leaves _ _ g.met.T.Visitor.lawful _ _ _ _ _ _ _ found.0 _ _ found.2 found.1
+    (c.has_no_children.ensures.0 c.if-has_no_children.true) here
 
 pub returns-then-has_no_children-clause-visits : goal.returns-then-has_no_children-clause-visits
 returns-then-has_no_children-clause-visits g t c
+    = omega (arith, (rw (c.has_no_children.ensures.0 c.if-has_no_children.true) at c.in-Some.ensures.visits))
+
+pub returns-then-has_no_children-clause-bound : goal.returns-then-has_no_children-clause-bound
+returns-then-has_no_children-clause-bound g t c
     = omega (arith, (rw (c.has_no_children.ensures.0 c.if-has_no_children.true) at c.in-Some.ensures.visits))
 
 pub loop-child-init : goal.loop-child-init
@@ -47,10 +60,10 @@ loop-child-init g t c =
     record {
       callable = rw c.of-shared_children.ensures.shared_children
           (can-rest _ _ laws _ _ _ _ _ _ (can-aligned _ _ laws _ g.met.T.Visitor.deeper _ _ _ _ _ found.0 _ _ found.2
-          found.1 c.requires.callable) (rw (c.value.ensures, c.value-2.ensures) at c.give_both.ensures.calls));
+          found.1 c.requires.callable) (rw (c.value.ensures, c.value-2.ensures) at c.in-Ok.ensures.calls));
       place = path-stays _;
       reserved = laws.keeps_reserved _ _ found.0 _ _ found.1 c.requires.reserved found.2.short;
-      given = λ last h. h;
+      given = λ r last h. h;
       visits = rw c.of-shared_children.ensures.shared_children c.in-Some.ensures.visits;
       within = rw c.of-shared_children.ensures.shared_children
           (shared_children-within _ c.in-Some.left_aligned.node.now c.in-Some.right_aligned.node.now found.2.few);
@@ -66,28 +79,40 @@ intersect_below-requires g t c κs within =
     inv.place inv.callable in
     let w = within.1.1.1 in (
       omega (arith, c.decreases, next.falls),
-      (within.0, (within.1.0, (within.1.1.0, (w.0, (w.1.0, (w.1.1, (reserved, callable))))))),
+      (within.0, (within.1.0, (within.1.1.0, (w.0, (w.1.0, (w.1.1.0, (w.1.1.1, (reserved, callable)))))))),
     )
+
+-- a pair below the children ended the walk
+pub returns-in-Err-intersect_below-clause-calls : goal.returns-in-Err-intersect_below-clause-calls
+returns-in-Err-intersect_below-clause-calls g t c =
+    let laws = g.met.T.Visitor.lawful in
+    let found = c.in-Some.ensures.aligned in
+    let inv = c.loop-child.invariant in
+    let here = rw (c.value.ensures, c.value-2.ensures) at c.in-Ok.ensures.calls in
+    let below = rw c.of-shared_children.ensures.shared_children at (inv.given _ _ (given-end _ _ laws _ _ _ _ _ _ _ _ _
+    c.in-Some-enter_next.ensures.shared_children inv.place c.in-Err-intersect_below.ensures.calls)) in
+    given-aligned _ _ laws _ _ _ _ _ _ _ _ found.0 _ _ found.2 found.1 here below
+
+pub returns-in-Err-intersect_below-clause-bound : goal.returns-in-Err-intersect_below-clause-bound
+returns-in-Err-intersect_below-clause-bound g t c =
+    let inv = c.loop-child.invariant in
+    let next = next-shared_children _ _ _ _ _ _ c.in-Some-enter_next.ensures.shared_children inv.within in
+    omega (arith, inv.visits, next.visits, c.in-Some-enter_next.ensures.counted, c.intersect_below.ensures.bound)
 
 pub loop-child-preserved : goal.loop-child-preserved
 loop-child-preserved g t c =
     let laws = g.met.T.Visitor.lawful in
     let inv = c.loop-child.invariant in
     let next = next-shared_children _ _ _ _ _ _ c.in-Some-enter_next.ensures.shared_children inv.within in
+    let below = c.in-Ok-intersect_below.ensures in
     record {
       callable = can-others _ _ laws _ g.met.T.Visitor.deeper _ _ _ _ _ _ _ _
-          c.in-Some-enter_next.ensures.shared_children inv.place c.intersect_below.ensures.calls inv.callable;
-      place = path-on _ _ _ [] [] inv.place c.intersect_below.ensures.place;
-      reserved = laws.keeps_reserved _ _ [] _ _ c.intersect_below.ensures.place inv.reserved (omega arith);
-      given = λ last h. inv.given last (given-next _ _ laws _ _ _ _ _ _ _ _ _
-          c.in-Some-enter_next.ensures.shared_children inv.place c.intersect_below.ensures.calls h);
-      visits = omega (
-        arith,
-        inv.visits,
-        next.visits,
-        c.in-Some-enter_next.ensures.counted,
-        c.intersect_below.ensures.visits,
-      );
+          c.in-Some-enter_next.ensures.shared_children inv.place below.calls inv.callable;
+      place = path-on _ _ _ [] [] inv.place below.place;
+      reserved = laws.keeps_reserved _ _ [] _ _ below.place inv.reserved (omega arith);
+      given = λ r last h. inv.given r last (given-next _ _ laws _ _ _ _ _ _ _ _ _ _
+          c.in-Some-enter_next.ensures.shared_children inv.place below.calls h);
+      visits = omega (arith, inv.visits, next.visits, c.in-Some-enter_next.ensures.counted, below.visits);
       within = next.others;
     }
 
@@ -103,18 +128,36 @@ intersect_leaves-requires-clause-callable g t c =
     can-next _ _ g.met.T.Visitor.lawful _ g.met.T.Visitor.deeper _ _ _ _ _ _ _
     c.in-Some-enter_next.ensures.shared_children inv.place inv.callable
 
+-- that of two leaves ended it
+pub returns-in-Err-intersect_leaves-clause-calls : goal.returns-in-Err-intersect_leaves-clause-calls
+returns-in-Err-intersect_leaves-clause-calls g t c =
+    let laws = g.met.T.Visitor.lawful in
+    let found = c.in-Some.ensures.aligned in
+    let inv = c.loop-child.invariant in
+    let here = rw (c.value.ensures, c.value-2.ensures) at c.in-Ok.ensures.calls in
+    let below = rw c.of-shared_children.ensures.shared_children at (inv.given _ _ (given-end _ _ laws _ _ _ _ _ _ _ _ _
+    c.in-Some-enter_next.ensures.shared_children inv.place c.in-Err-intersect_leaves.ensures.calls)) in
+    given-aligned _ _ laws _ _ _ _ _ _ _ _ found.0 _ _ found.2 found.1 here below
+
+pub returns-in-Err-intersect_leaves-clause-bound : goal.returns-in-Err-intersect_leaves-clause-bound
+returns-in-Err-intersect_leaves-clause-bound g t c =
+    let inv = c.loop-child.invariant in
+    let next = next-shared_children _ _ _ _ _ _ c.in-Some-enter_next.ensures.shared_children inv.within in
+    omega (arith, inv.visits, next.visits, c.in-Some-enter_next.ensures.counted)
+
 pub loop-child-preserved-then-has_no_children-3 : goal.loop-child-preserved-then-has_no_children-3
 loop-child-preserved-then-has_no_children-3 g t c =
     let laws = g.met.T.Visitor.lawful in
     let inv = c.loop-child.invariant in
     let next = next-shared_children _ _ _ _ _ _ c.in-Some-enter_next.ensures.shared_children inv.within in
+    let below = c.in-Ok-intersect_leaves.ensures in
     record {
       callable = can-others _ _ laws _ g.met.T.Visitor.deeper _ _ _ _ _ _ _ _
-          c.in-Some-enter_next.ensures.shared_children inv.place c.intersect_leaves.ensures.calls inv.callable;
-      place = path-on _ _ _ [] [] inv.place c.intersect_leaves.ensures.place;
-      reserved = laws.keeps_reserved _ _ [] _ _ c.intersect_leaves.ensures.place inv.reserved (omega arith);
-      given = λ last h. inv.given last (given-next _ _ laws _ _ _ _ _ _ _ _ _
-          c.in-Some-enter_next.ensures.shared_children inv.place c.intersect_leaves.ensures.calls h);
+          c.in-Some-enter_next.ensures.shared_children inv.place below.calls inv.callable;
+      place = path-on _ _ _ [] [] inv.place below.place;
+      reserved = laws.keeps_reserved _ _ [] _ _ below.place inv.reserved (omega arith);
+      given = λ r last h. inv.given r last (given-next _ _ laws _ _ _ _ _ _ _ _ _ _
+          c.in-Some-enter_next.ensures.shared_children inv.place below.calls h);
       visits = omega (
         arith,
         inv.visits,
@@ -136,8 +179,8 @@ pub returns-clause-calls : goal.returns-clause-calls
 returns-clause-calls g t c =
     let laws = g.met.T.Visitor.lawful in
     let found = c.in-Some.ensures.aligned in
-    let here = rw (c.value.ensures, c.value-2.ensures) at c.give_both.ensures.calls in
+    let here = rw (c.value.ensures, c.value-2.ensures) at c.in-Ok.ensures.calls in
     let below = rw c.of-shared_children.ensures.shared_children at
-    (c.loop-child.invariant.given c.loop-child.f
+    (c.loop-child.invariant.given (Ok tt) c.loop-child.f
     (rw c.in_default-enter_next.ensures.shared_children (laws.gives_none _ _))) in
-    given-aligned _ _ laws _ _ _ _ _ _ _ found.0 _ _ found.2 found.1 here below
+    given-aligned _ _ laws _ _ _ _ _ _ _ _ found.0 _ _ found.2 found.1 here below

@@ -19,10 +19,10 @@ invariant-loop-child g l = record {
       (intersect_all (shared_ahead l.shared_children l.left_aligned.node.now l.right_aligned.node.now));
   place : PathGrown l.initial.path [] l.path;
   reserved : g.T.Visitor.reserved l.path (longest_key (children_pairs (children_in l.left_aligned.node.now)));
-  given : (last : _) → g.T.Visitor.given l.initial.path l.f
-      (intersect_all (shared_ahead l.shared_children l.left_aligned.node.now l.right_aligned.node.now)) last
+  given : (r : _) (last : _) → g.T.Visitor.given l.initial.path l.f
+      (intersect_all (shared_ahead l.shared_children l.left_aligned.node.now l.right_aligned.node.now)) r last
       → g.T.Visitor.given l.initial.path l.initial.f
-      (intersect_all (shared_ahead l.initial.shared_children l.left_aligned.node.now l.right_aligned.node.now)) last;
+      (intersect_all (shared_ahead l.initial.shared_children l.left_aligned.node.now l.right_aligned.node.now)) r last;
   visits : g.C.Count.number l.counter + visits_all
       (shared_ahead l.shared_children l.left_aligned.node.now l.right_aligned.node.now)
       ≡ g.C.Count.number l.fn.counter + more_visits l.fn.left.node.now l.fn.right.node.now;

@@ -2,7 +2,7 @@ use Rattle.std.proofs.Common.{sym, ◌∙◌}
 use Rattle.rart_nodes.proofs.joins.AlignmentLemmas.{Aligned, place-equal}
 use Rattle.rart_nodes.proofs.joins.JoinPathLemmas.{path-stays}
 use Rattle.rart_nodes.proofs.joins.LeafPairs.{leaves-apart}
-use Rattle.rart_nodes.proofs.joins.VisitorLemmas.{back-again, can-aligned, can-start, given-aligned}
+use Rattle.rart_nodes.proofs.joins.VisitorLemmas.{back-again, can-aligned, can-start, given-leaves}
 use Rattle.rart_nodes.proofs.node.intersect.intersect_leaves.Given.{Over}
 use Rattle.rart_nodes.proofs.node.intersect.intersect_leaves.Goals.{After-grow}
 use Rattle.rart_nodes.proofs.node.intersect.intersect_leaves.Goals as goal
@@ -22,10 +22,10 @@ found g c = place-equal c.args.left.node.now c.args.right.node.now c.to_slice.re
     (c.to_slice.ensures ∙ c.prefix-3.ensures)
     (sym c.prefix.ensures ∙ c.same_prefixes.ensures.0 c.if-not-same_prefixes.false ∙ c.prefix-2.ensures)
 
-pub give_both-requires-clause-callable : goal.give_both-requires-clause-callable
-give_both-requires-clause-callable g c =
+pub give_both-given-requires-clause-callable : goal.give_both-given-requires-clause-callable
+give_both-given-requires-clause-callable g c =
     let laws = g.met.T.Visitor.lawful in
-    let end = found g (goal.at.give_both-requires-clause-callable g c).After-grow in
+    let end = found g (goal.at.give_both-given-requires-clause-callable g c).After-grow in
     rw (c.value.ensures, c.value-2.ensures) (can-start _ _ laws _ _ _ _ _
     (can-aligned _ _ laws _ g.met.T.Visitor.deeper _ _ _ _ _ c.to_slice.result.now _ _ end.aligned c.grow.ensures
     c.requires.callable))
@@ -38,6 +38,5 @@ pub returns-clause-calls : goal.returns-clause-calls
 returns-clause-calls g c =
     let laws = g.met.T.Visitor.lawful in
     let end = found g (goal.at.returns-clause-calls g c).After-grow in
-    let here = rw (c.value.ensures, c.value-2.ensures) at c.give_both.ensures.calls in
-    given-aligned _ _ laws _ _ _ _ _ _ _ c.to_slice.result.now _ _ end.aligned c.grow.ensures here
-    (rw c.requires.right_leaf (laws.gives_none _ _))
+    let here = rw (c.value.ensures, c.value-2.ensures) at c.give_both-given.ensures.calls in
+    given-leaves _ _ laws _ _ _ _ _ _ _ c.to_slice.result.now _ _ end.aligned c.grow.ensures c.requires.right_leaf here

@@ -6,4 +6,4 @@ use Rattle.rart_nodes.proofs.node.seen.Seen.intersect_count_counted.Goals as goa
 
 pub returns-clause-count : goal.returns-clause-count
 returns-clause-count g c = count-is _ (join (tree_pairs (option_copied c.args.self.root))
-    (tree_pairs (option_copied c.args.other.root))) c.intersect_trees.ensures.calls
+    (tree_pairs (option_copied c.args.other.root))) c.intersect_trees.ensures.calls.1

@@ -28,7 +28,7 @@ pub returns-clause-calls : goal.returns-clause-calls
 returns-clause-calls g c =
     given-whole (λ p x q. ViewedAt g.F.FnMut p x q) (joined_bytes (lent_segments c.in_ok-segments.segments.items)) _ _
     (join (tree_pairs (option_copied c.args.self.root)) (tree_pairs (option_copied c.args.other.root)))
-    (ap (λ z. joined_bytes (lent_segments z)) c.in_ok-segments.ensures.items) c.intersect_trees.ensures.calls
+    (ap (λ z. joined_bytes (lent_segments z)) c.in_ok-segments.ensures.items) c.intersect_trees.ensures.calls.1
 
 pub intersect_trees-requires-clause-callable : goal.intersect_trees-requires-clause-callable
 intersect_trees-requires-clause-callable g c =

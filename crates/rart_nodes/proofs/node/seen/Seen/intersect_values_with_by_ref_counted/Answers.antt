@@ -12,4 +12,4 @@ intersect_trees-requires-clause-callable g c =
     c.requires.callable
 
 pub returns-clause-stays_callable : goal.returns-clause-stays_callable
-returns-clause-stays_callable g c = always-after-with g.F.FnMut _ _ _ c.intersect_trees.ensures.calls
+returns-clause-stays_callable g c = always-after-with g.F.FnMut _ _ _ c.intersect_trees.ensures.calls.1

@@ -26,7 +26,7 @@ pub returns-clause-calls : goal.returns-clause-calls
 returns-clause-calls g c =
     given-whole (λ p x q. CalledAt g.F.FnMut g.K.KeyTrait.bytes p x q) c.in_ok-bytes.bytes.items _ _
     (join (tree_pairs (option_copied c.args.self.root)) (tree_pairs (option_copied c.args.other.root)))
-    c.in_ok-bytes.ensures.items c.intersect_trees.ensures.calls
+    c.in_ok-bytes.ensures.items c.intersect_trees.ensures.calls.1
 
 pub intersect_trees-requires-clause-callable : goal.intersect_trees-requires-clause-callable
 intersect_trees-requires-clause-callable g c =

@@ -13,4 +13,4 @@ returns g c =
     let called = subst (λ k. CalledAt g.F.FnMut g.K.KeyTrait.bytes c.args.f.now
     (k, (c.args.left.now, c.args.right.now)) c.call_with_key.new.f)
     (c.as_slice.ensures.value ∙ sym (append-nil c.in-Bytes.bytes.items)) c.call_with_key.ensures in
-    record { calls = rw c.in-Bytes.is (c.call_with_key.new.f, called, refl) }
+    record { calls = rw c.in-Bytes.is (refl, (c.call_with_key.new.f, called, refl)) }

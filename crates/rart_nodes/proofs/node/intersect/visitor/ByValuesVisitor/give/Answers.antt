@@ -16,4 +16,4 @@ returns g c =
       called
           = search (rules, of_calls);
     } in
-    record { calls = (c.f.new.self, called, refl) }
+    record { calls = (refl, (c.f.new.self, called, refl)) }

@@ -28,4 +28,4 @@ returns g c =
           = refl;
       called = search (rules, of_calls);
     } in
-    record { calls = rw c.in-Segments.is (c.f.new.self, called, refl) }
+    record { calls = rw c.in-Segments.is (refl, (c.f.new.self, called, refl)) }
