@@ -1,5 +1,4 @@
 pub mod BackVisits
-pub mod BoundCutLemmas
 pub mod BoundDescents
 pub mod BoundSteps
 pub mod ComparedEntries

@@ -1,6 +1,4 @@
 pub mod BackWalk
-pub mod BoundCuts
-pub mod LentBounds
 pub mod Nearest
 pub mod Potential
 pub mod Spans

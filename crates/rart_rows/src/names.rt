@@ -97,11 +97,12 @@ pub enum Removal {
     Clear,
 }
 
-/// Edits of all values, or of those below a prefix.
+/// Edits of all values, of those below a prefix, or of those within two bounds.
 #[derive(Clone, Copy)]
 pub enum Values {
     ForEachValueMut,
     PrefixForEachValueMut,
+    RangeForEachValueMut,
 }
 
 /// Edits of many pairs.

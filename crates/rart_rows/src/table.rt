@@ -9,7 +9,7 @@ use crate::names::{
 pub type Entry = (&'static str, Call, &'static str);
 
 // Where two names are one call, the second is the word of the program `rart_script`.
-static NAMES: [Entry; 96] = [
+static NAMES: [Entry; 97] = [
     ("get", Call::Look(Look::Get), "k"),
     ("contains_key", Call::Look(Look::ContainsKey), "k"),
     (
@@ -118,6 +118,11 @@ static NAMES: [Entry; 96] = [
         "prefix_for_each_value_mut",
         Call::Values(Values::PrefixForEachValueMut),
         "kv",
+    ),
+    (
+        "range_for_each_value_mut",
+        Call::Values(Values::RangeForEachValueMut),
+        "sev",
     ),
     ("retain", Call::Many(Many::Retain), "rv"),
     ("remove_prefix", Call::Many(Many::RemovePrefix), "k"),

@@ -69,7 +69,7 @@ fn call_one<K: KeyTrait + Drop>(tree: &mut Tree<K>, asked: &Asked<'_, K>, answer
     match asked.row.call {
         Call::Insertion(name) => insert_at(tree, key, name, args, form, answer),
         Call::Removal(name) => remove_at(tree, key, name, form, answer),
-        Call::Values(name) => add_to_values(tree, key, name, args.value, form, answer),
+        Call::Values(name) => add_to_values(tree, asked, name, answer),
         Call::Group(name) => call_group(tree, name, args, answer),
         _ => read(tree, asked, answer),
     }

@@ -1,5 +1,7 @@
 pub mod build
+pub mod changes
 pub mod edits
+pub mod ranges
 pub mod removals
 pub mod retentions
 pub mod shapes

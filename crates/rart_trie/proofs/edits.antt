@@ -16,5 +16,3 @@ pub mod PutAllocationLemmas
 pub mod PutLemmas
 pub mod TakeValueLemmas
 pub mod UpdateSteps
-pub mod ValueChangeLemmas
-pub mod ValueWalkLemmas

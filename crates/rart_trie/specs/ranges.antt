@@ -1,2 +1,4 @@
+pub mod BoundCuts
+pub mod LentBounds
 pub mod Starts
 pub mod Under

@@ -10,6 +10,7 @@ use crate::node::storage::Storage;
 use rart_keys::Partial;
 use std::marker::Model;
 
+pub mod bounds;
 mod children;
 mod edits;
 mod ends;

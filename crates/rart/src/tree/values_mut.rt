@@ -1,12 +1,16 @@
 //! Walks that change values in place.
 ghost use Rattle.std.specs.Prelude.{◌≡◌, []};
+ghost use Rattle.rart_keys.specs.Ranges.{between, bound_in};
 ghost use Rattle.rart_keys.specs.SortedMap.{values_of};
-ghost use Rattle.rart_trie.specs.edits.ValueChanges.{CanLend, ChangesBelowByValue, ChangesBelow};
+ghost use Rattle.rart_trie.specs.edits.ValueChanges.{CanLend, ChangesBelow, ChangesBelowByValue, ChangesBetween};
+ghost use Rattle.rart_trie.specs.edits.ValueChanges.{ChangesBetweenByValue};
 ghost use Rattle.rart_trie.specs.walks.BelowPrefix.{values_below};
 
 use crate::tree::AdaptiveRadixTree;
 use rart_keys::KeyTrait;
 use rart_nodes::node::DefaultNode;
+use rart_trie::node::bounds::slice_bound;
+use std::ops::Bound;
 
 impl<K: KeyTrait, V> AdaptiveRadixTree<K, V> {
     /// Calls `f` with a mutable reference to each value, in the order of the keys. `f` must be callable with each
@@ -63,5 +67,49 @@ impl<K: KeyTrait, V> AdaptiveRadixTree<K, V> {
         ensures nodes { self.new.nodes ≡ self.old.nodes }
     {
         self.prefix_for_each_value_mut_k(&prefix, f);
+    }
+
+    /// Calls `f` with a mutable reference to each value whose key is within two bounds, in the order of the keys; with
+    /// none if the end is below the start. `f` must be callable with each of these values in turn; the caller keeps it.
+    /// Keys, nodes and the other values are unchanged. Makes no key, allocates nothing.
+    pub fn range_for_each_value_mut_by_ref<F: FnMut(&mut V)>(
+        &mut self,
+        start: Bound<K>,
+        end: Bound<K>,
+        f: &mut F,
+    )
+    where
+        K: Drop,
+        requires callable { CanLend F.FnMut f.old (values_of
+            (between (bound_in K.bytes start) (bound_in K.bytes end) self.old.pairs)) }
+        ensures stays_callable { F.IsAlwaysCallable f.old → F.IsAlwaysCallable f.new }
+        ensures changes { ChangesBetween F.FnMut (bound_in K.bytes start) (bound_in K.bytes end)
+            f.old self.old.pairs self.new.pairs f.new }
+        ensures nodes { self.new.nodes ≡ self.old.nodes }
+    {
+        DefaultNode::change_values_within(
+            &mut self.root,
+            slice_bound(&start),
+            slice_bound(&end),
+            f,
+        );
+    }
+
+    /// Calls `f` as [`range_for_each_value_mut_by_ref`](Self::range_for_each_value_mut_by_ref), and drops it.
+    pub fn range_for_each_value_mut<F: FnMut(&mut V) + Drop>(
+        &mut self,
+        start: Bound<K>,
+        end: Bound<K>,
+        mut f: F,
+    )
+    where
+        K: Drop,
+        requires callable { CanLend F.FnMut f (values_of
+            (between (bound_in K.bytes start) (bound_in K.bytes end) self.old.pairs)) }
+        ensures changes { ChangesBetweenByValue F.FnMut (bound_in K.bytes start)
+            (bound_in K.bytes end) f self.old.pairs self.new.pairs }
+        ensures nodes { self.new.nodes ≡ self.old.nodes }
+    {
+        self.range_for_each_value_mut_by_ref(start, end, &mut f);
     }
 }

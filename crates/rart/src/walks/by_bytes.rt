@@ -2,7 +2,7 @@
 //! given bytes. The bytes may be more than any key has: then no key begins with them.
 ghost use Rattle.std.specs.Prelude.{◌≡◌, IfErr, IfOk, OnErr, OnOk};
 ghost use Rattle.rart_keys.specs.Filters.{below};
-ghost use Rattle.rart_nodes.specs.ranges.LentBounds.{lent_bound};
+ghost use Rattle.rart_trie.specs.ranges.LentBounds.{lent_bound};
 ghost use Rattle.rart_nodes.specs.ranges.Spans.{cut_between};
 ghost use Rattle.rart_nodes.specs.walks.Shown.{CanFold, CanShow, FoldsEach, FoldsEachByValue, ShowsEach};
 ghost use Rattle.rart_nodes.specs.walks.Shown.{ShowsEachByValue};

@@ -2,7 +2,7 @@
 ghost use Rattle.std.specs.Prelude.{◌≡◌, length};
 ghost use Rattle.rart_keys.specs.Filters.{below};
 ghost use Rattle.rart_keys.specs.Ranges.{between, bound_in};
-ghost use Rattle.rart_nodes.specs.ranges.LentBounds.{lent_bound};
+ghost use Rattle.rart_trie.specs.ranges.LentBounds.{lent_bound};
 
 use crate::tree::AdaptiveRadixTree;
 use rart_keys::KeyTrait;

@@ -27,11 +27,25 @@ use Rattle.rart_trie.proofs.tries.CanonicalTests.{IsCanonical-test, canonical-lo
 use Rattle.rart_trie.proofs.tries.Descents.{child_of-low, descend-child_of}
 use Rattle.rart_trie.proofs.tries.FirstBytes.{AllFirst, pairs_of-first}
 use Rattle.rart_trie.proofs.tries.StepLemmas.{root-entered}
-use Rattle.rart_nodes.specs.ranges.BoundCuts.{bound_at, bound_by, bound_past, bound_with, first_cmp, is_bounded}
-use Rattle.rart_nodes.specs.ranges.BoundCuts.{is_inside, path_count, rest_past, unbounded_if}
+use Rattle.rart_trie.specs.ranges.BoundCuts.{bound_at, bound_by, bound_past, bound_with, first_cmp, is_bounded}
+use Rattle.rart_trie.specs.ranges.BoundCuts.{is_inside, path_count, rest_past, unbounded_if}
 use Rattle.rart_nodes.proofs.ranges.ComparedEntries.{filter-map}
-use Rattle.rart_nodes.proofs.ranges.BoundCutLemmas.{in-at, in-past, is_in_some, later-none, no-bytes, none-of, one-of}
-use Rattle.rart_nodes.proofs.ranges.BoundCutLemmas.{one_if, some-by}
+use Rattle.rart_trie.proofs.ranges.BoundCutLemmas.{in-at, in-past, is_in_some, later-none, no-bytes, none-of}
+
+-- 1 where there is a bound
+abbrev one_if : Bool → ℕ
+one_if true = 1
+one_if false = 0
+
+some-by : (r : Option (List ℕ)) (f : ℕ → List ℕ → ℕ) → 1 ≤ by_rest 1 1 (λ n. 1 + n) r f
+some-by None f = omega arith
+some-by (Some []) f = omega arith
+some-by (Some (b ∷ r)) f = omega arith
+
+one-of : (x y : Bool) → x || y ≡ true → 1 ≤ one_if x + one_if y
+one-of true y h = omega arith
+one-of false true h = omega arith
+one-of false false h = absurd (cc)
 
 -- whether a key is within both bounds, if there are both
 abbrev is_in_both : Option (Bound (List ℕ)) → Option (Bound (List ℕ)) → List ℕ → Bool

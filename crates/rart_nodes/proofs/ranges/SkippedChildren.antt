@@ -1,31 +1,21 @@
 -- The children before a start add nothing to a count, so that they can be skipped.
-use Rattle.std.proofs.Common.{◌≡◌, ℕ, zero, suc, ◌≤◌, ⊎_elim, List, [], ◌∷◌, length, length-append}
+use Rattle.std.proofs.Common.{◌≡◌, ℕ, suc, ◌≤◌, ⊎_elim, List, length, length-append}
 use Rattle.std.proofs.Common.{true, Option, Some, None, refl, sym, arith}
 use Rattle.std.specs.declared.ops.Bound.{Bound}
-use Rattle.std.specs.declared.ops.Bound.TheVariants.{Included, Excluded, Unbounded}
 use Rattle.std.proofs.lemmas.Bool.{cases_lt, lt-ltb, le-ltb}
 use Rattle.rart_keys.specs.Ranges.{bound_bytes}
-use Rattle.rart_keys.proofs.strings.ByteOrder.{is_less}
 use Rattle.rart_trie.specs.declared.node.ends.End.TheVariants.{First}
+use Rattle.rart_trie.specs.ranges.BoundCuts.{bound_at, byte_below}
 use Rattle.rart_trie.specs.ranges.Starts.{children_above}
 use Rattle.rart_trie.specs.tries.CanonicalTest.{is_canonical}
 use Rattle.rart_trie.specs.tries.Trie.{Trie, Children, no_children, child, children_in, children_pairs, pairs_of}
 use Rattle.rart_trie.specs.tries.Trie.{AreCanonical}
 use Rattle.rart_trie.specs.tries.TrieCode.{child_count}
+use Rattle.rart_trie.proofs.ranges.BoundCutLemmas.{none-before}
 use Rattle.rart_trie.proofs.tries.CanonicalTests.{canonical-lower}
-use Rattle.rart_nodes.specs.ranges.BoundCuts.{bound_at, byte_below}
 use Rattle.rart_nodes.specs.ranges.Steps.{children_after}
 use Rattle.rart_nodes.proofs.ranges.CountedBounds.{count_in, count-append, most_below, passed}
 use Rattle.rart_nodes.proofs.walks.PathLemmas.{below-canonical}
-
-none-below : (a : Bound (List ℕ)) (b c : ℕ) → byte_below (bound_bytes a) ≡ Some b → c ≤ b → bound_at First c a ≡ None
-none-below Unbounded b c h l = absurd (cc)
-none-below (Included []) b c h l = absurd (cc)
-none-below (Included (zero ∷ s)) b c h l = absurd (cc)
-none-below (Included (suc x ∷ s)) b c h l = let i : x ≡ b = cc in rw (is_less c (suc x) (omega (arith, i, l))) refl
-none-below (Excluded []) b c h l = absurd (cc)
-none-below (Excluded (zero ∷ s)) b c h l = absurd (cc)
-none-below (Excluded (suc x ∷ s)) b c h l = let i : x ≡ b = cc in rw (is_less c (suc x) (omega (arith, i, l))) refl
 
 module _ {V : Type 0} where
   -- some of the children ds count as all of them do
@@ -74,7 +64,7 @@ module _ {V : Type 0} where
       let rest = above-alike a b d (suc c) cs w.3 h in
       ⊎_elim (λ l. rw (lt-ltb d c l) (kept-alike a b c t (children_above d cs) cs rest))
       (λ l. rw (le-ltb d c l) (passed-alike a b c t (children_above d cs) cs
-      (canonical-lower 0 low (child c t cs) (omega arith) w) (none-below a d c h l) rest)) (cases_lt d c)
+      (canonical-lower 0 low (child c t cs) (omega arith) w) (none-before a d c h l) rest)) (cases_lt d c)
 
   pub after-alike : (a b : Bound (List ℕ)) (e : Option ℕ) (t : Trie V) → is_canonical t ≡ true
       → byte_below (bound_bytes a) ≡ e → CountAlike a b (children_after e (children_in t)) (children_in t)

@@ -11,7 +11,7 @@ ghost use Rattle.rart_keys.specs.SortedMap.{IsAscending};
 ghost use Rattle.rart_keys.specs.KeyBytes.{IsWithin};
 ghost use Rattle.rart_keys.specs.Ranges.{between, bound_bytes, bound_in, is_from, is_inclusive, is_to, pairs_from};
 ghost use Rattle.rart_keys.specs.Ranges.{up_to};
-ghost use Rattle.rart_nodes.specs.ranges.LentBounds.{lent_bound};
+ghost use Rattle.rart_trie.specs.ranges.LentBounds.{lent_bound};
 ghost use Rattle.rart_trie.specs.ranges.Starts.{TakesUpTo, bytes_taken};
 ghost use Rattle.rart_nodes.specs.tries.SeenTrees.{seen_keys, seen_pairs};
 ghost use Rattle.rart_trie.specs.walks.ProbeCount.{probe_count};
@@ -22,6 +22,7 @@ use crate::node::seen::Seen;
 pub use crate::node::walks::descending::range::{RangeDescending, SeenRangeDescending};
 use rart_keys::{KeyTrait, Partial};
 use rart_parts::TreeError;
+use rart_trie::node::bounds::{bytes_of, slice_bound};
 use rart_trie::{Count, Visits};
 use std::cmp::Ordering;
 use std::marker::Model;
@@ -46,29 +47,6 @@ fn is_within<K: KeyTrait>(key: &K, end: &Bound<K>) -> bool
         Bound::Included(end) => is_before(key.as_ref().cmp(end.as_ref()), true),
         Bound::Excluded(end) => is_before(key.as_ref().cmp(end.as_ref()), false),
         Bound::Unbounded => true,
-    }
-}
-
-/// Returns a bound by the bytes of its key.
-pub(crate) fn slice_bound<K: KeyTrait>(bound: &Bound<K>) -> Bound<&[u8]>
-    ensures { lent_bound result ≡ bound_in K.bytes bound.now }
-{
-    match bound {
-        Bound::Included(key) => Bound::Included(key.as_ref()),
-        Bound::Excluded(key) => Bound::Excluded(key.as_ref()),
-        Bound::Unbounded => Bound::Unbounded,
-    }
-}
-
-/// Returns the bytes of a start and whether it is inclusive. Without a start, the bytes are empty.
-pub(crate) fn bytes_of(start: Bound<&[u8]>) -> (&[u8], bool)
-    ensures bytes { result.0.now ≡ bound_bytes (lent_bound start.entry) }
-    ensures inclusive { result.1 ≡ is_inclusive (lent_bound start.entry) }
-{
-    match start {
-        Bound::Included(bytes) => (bytes, true),
-        Bound::Excluded(bytes) => (bytes, false),
-        Bound::Unbounded => (&[], true),
     }
 }
 

@@ -1,6 +1,7 @@
 //! Insertions, removals, and edits of values.
 
 use crate::answer::Answer;
+use crate::asked::Asked;
 use crate::calls::updates::{try_update, update};
 use crate::form::Form;
 use crate::names::{Insertion, Removal, Values};
@@ -287,18 +288,37 @@ fn prefix_for_each_value_mut<K: KeyTrait + Drop>(
     }
 }
 
+fn range_for_each_value_mut<K: KeyTrait + Drop>(
+    tree: &mut Tree<K>,
+    asked: &Asked<'_, K>,
+    answer: &mut Answer,
+) {
+    let added = asked.args().value;
+    let mut add = |value: &mut u64| {
+        answer.item(*value);
+        *value = (*value).wrapping_add(added);
+    };
+    if asked.form.lends() {
+        tree.range_for_each_value_mut_by_ref(asked.start(), asked.end(), &mut add);
+    } else {
+        tree.range_for_each_value_mut(asked.start(), asked.end(), add);
+    }
+}
+
 /// Adds a number to values.
 pub fn add_to_values<K: KeyTrait + Drop>(
     tree: &mut Tree<K>,
-    key: &K,
+    asked: &Asked<'_, K>,
     values: Values,
-    added: u64,
-    form: Form,
     answer: &mut Answer,
 ) {
+    let (added, form) = (asked.args().value, asked.form);
     match values {
         Values::ForEachValueMut => for_each_value_mut(tree, added, form, answer),
-        Values::PrefixForEachValueMut => prefix_for_each_value_mut(tree, key, added, form, answer),
+        Values::PrefixForEachValueMut => {
+            prefix_for_each_value_mut(tree, &asked.key, added, form, answer);
+        }
+        Values::RangeForEachValueMut => range_for_each_value_mut(tree, asked, answer),
     }
     answer.end();
 }

@@ -27,7 +27,7 @@ use Rattle.rart_trie.proofs.retentions.RetentionLemmas.{calls-fulfilled, calls-l
 use Rattle.rart_trie.proofs.retentions.RetentionLemmas.{refusals-append, refusals-fulfilled, remaining-append}
 use Rattle.rart_trie.proofs.retentions.RetentionLemmas.{remaining-front, remaining-fulfilled, refused_key-append}
 use Rattle.rart_trie.proofs.retentions.RetentionLemmas.{refused_key-front, refused_key-only}
-use Rattle.rart_trie.proofs.edits.ValueChangeLemmas.{can-back}
+use Rattle.rart_trie.proofs.changes.ValueChangeLemmas.{can-back}
 use Rattle.rart_trie.proofs.removals.PopLemmas.{first-is, leaf-here}
 use Rattle.rart_trie.proofs.removals.RemoveSteps.{shrunk-capacity}
 use Rattle.rart_trie.proofs.storages.ChildLemmas.{lt-no}

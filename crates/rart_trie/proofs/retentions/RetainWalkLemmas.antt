@@ -22,7 +22,7 @@ use Rattle.rart_trie.specs.tries.PrefixLaws.{prefix-append, prefix-twice}
 use Rattle.rart_trie.specs.tries.Trie.{Trie, node, Children, no_children, AreCanonical, HasTwoChildren, IsCanonical}
 use Rattle.rart_trie.specs.tries.Trie.{children_in, children_pairs, own_pair, pairs_of, with_prefix}
 use Rattle.rart_trie.specs.tries.TrieCode.{as_children, node_count}
-use Rattle.rart_trie.proofs.edits.ValueChangeLemmas.{can-back, can-front}
+use Rattle.rart_trie.proofs.changes.ValueChangeLemmas.{can-back, can-front}
 use Rattle.rart_trie.proofs.removals.PopLemmas.{below-within}
 use Rattle.rart_trie.proofs.storages.ChildLemmas.{edges_of-length}
 use Rattle.rart_trie.proofs.storages.EntryPlaces.{ahead_count, middle-above, middle-at, middle-canonical, middle-count}

@@ -90,6 +90,12 @@ module _ {V : Type 0} where
   middle-low b low u [] ys w = w.0
   middle-low b low u (x ∷ xs) ys w = omega (arith, w.0, middle-low b (suc x.0) u xs ys w.3)
 
+  -- those from it on
+  pub tail-canonical : (e : ℕ × Trie V) (low : ℕ) (xs ys : List (ℕ × Trie V))
+      → AreCanonical low (as_children (xs ++ e ∷ ys)) → AreCanonical e.0 (as_children (e ∷ ys))
+  tail-canonical e low [] ys w = (omega arith, w.1, w.2, w.3)
+  tail-canonical e low (x ∷ xs) ys w = tail-canonical e (suc x.0) xs ys w.3
+
   pub middle-at : (b low : ℕ) (u : Trie V) (xs ys : List (ℕ × Trie V))
       → AreCanonical low (as_children (xs ++ (b, u) ∷ ys)) → child_at b (xs ++ (b, u) ∷ ys) ≡ Some u
   middle-at b low u [] ys w = rw (eq-yes b b refl) refl
@@ -131,6 +137,11 @@ module _ {V : Type 0} where
       → AreCanonical low (as_children (xs ++ (b, u) ∷ ys)) → IsCanonical u
   middle-canonical b low u [] ys w = w.2
   middle-canonical b low u (x ∷ xs) ys w = middle-canonical b (suc x.0) u xs ys w.3
+
+  pub middle-first : (b low : ℕ) (u : Trie V) (xs ys : List (ℕ × Trie V))
+      → AreCanonical low (as_children (xs ++ (b, u) ∷ ys)) → StartsWith b (prefix_of u)
+  middle-first b low u [] ys w = w.1
+  middle-first b low u (x ∷ xs) ys w = middle-first b (suc x.0) u xs ys w.3
 
   pub middle-count : (b : ℕ) (u : Trie V) (xs ys : List (ℕ × Trie V))
       → node_count u ≤ child_count (as_children (xs ++ (b, u) ∷ ys))

@@ -1,9 +1,11 @@
 -- What a walk has ahead of it from a start on.
-use Rattle.std.specs.Prelude.{ℕ, ◌+◌, Bool, nat_lt, List, [], ◌≡◌, ◌∷◌, length, Option, MatchOption, if◌then◌else◌}
+use Rattle.std.specs.Prelude.{ℕ, ◌+◌, Bool, nat_lt, List, [], ◌≡◌, ◌∷◌, length, Option, Some, None, MatchOption}
+use Rattle.std.specs.Prelude.{if◌then◌else◌}
 use Rattle.std.specs.Borrow.{Bor}
 use Rattle.std.specs.List.{filter}
 use Rattle.std.specs.declared.ops.Bound.{Bound}
 use Rattle.rart_keys.specs.Ranges.{is_from_bound, is_to, up_to}
+use Rattle.rart_parts.specs.Entries.{entries_above}
 use Rattle.rart_trie.specs.tries.Trie.{Children, no_children, child}
 use Rattle.rart_trie.specs.walks.Walk.{SegmentList, joined_bytes}
 
@@ -11,6 +13,11 @@ use Rattle.rart_trie.specs.walks.Walk.{SegmentList, joined_bytes}
 abbrev pub children_above : {V : Type 0} → ℕ → Children V → Children V
 children_above b no_children = no_children
 children_above b (child c t cs) = if nat_lt b c then child c t (children_above b cs) else children_above b cs
+
+-- the entries of a map from bytes whose byte is above a bound, all if there is none
+abbrev pub entries_after : {X : Type 0} → Option ℕ → List (ℕ × X) → List (ℕ × X)
+entries_after None es = es
+entries_after (Some b) es = entries_above b es
 
 -- the entries whose key comes after s, and where h says so the one at s
 abbrev pub entries_from : {V : Type 0} → Bool → List ℕ → List (SegmentList × V) → List (SegmentList × V)

@@ -8,7 +8,7 @@ ghost use Rattle.std.specs.Prelude.{◌≡◌, [], ◌∷◌, reverse, IfErr, If
 ghost use Rattle.rart_keys.specs.Filters.{below};
 ghost use Rattle.rart_keys.specs.Ranges.{between, bound_in, up_to};
 ghost use Rattle.rart_keys.specs.SortedMap.{IsAscending};
-ghost use Rattle.rart_nodes.specs.ranges.LentBounds.{lent_bound};
+ghost use Rattle.rart_trie.specs.ranges.LentBounds.{lent_bound};
 ghost use Rattle.rart_trie.specs.walks.Calls.{MayLackMemory};
 
 use crate::tree::AdaptiveRadixTree;

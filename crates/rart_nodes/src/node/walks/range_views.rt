@@ -5,7 +5,7 @@
 
 ghost use Rattle.std.specs.Prelude.{◌≡◌, ◌≤◌, ◌+◌, ◌*◌, ℕ, [], length, reverse, vec_capacity, IfErr, OnErr, OnOk};
 ghost use Rattle.rart_keys.specs.Ranges.{bound_in, is_to};
-ghost use Rattle.rart_nodes.specs.ranges.LentBounds.{lent_bound};
+ghost use Rattle.rart_trie.specs.ranges.LentBounds.{lent_bound};
 ghost use Rattle.rart_nodes.specs.ranges.Potential.{AreLow};
 ghost use Rattle.rart_nodes.specs.ranges.Spans.{cut_between, span_bound, span_visits};
 ghost use Rattle.rart_trie.specs.ranges.Starts.{entries_to};
@@ -17,7 +17,7 @@ ghost use Rattle.rart_nodes.specs.walks.WalkSteps.{IsWalkAt};
 ghost use Rattle.rart_nodes.specs.walks.Viewed.{CanView, ViewsEachByValue, ViewsEach};
 ghost use Rattle.rart_trie.specs.walks.Calls.{MayLackMemory};
 
-use crate::node::range::{bytes_of, is_before, slice_bound};
+use crate::node::range::is_before;
 use crate::node::seen::Seen;
 use crate::node::view::LendingKeyView;
 use crate::node::walk::Walk;
@@ -25,6 +25,7 @@ use crate::node::walk::path::SegmentPath;
 use rart_keys::{KeyTrait, Partial};
 use rart_parts::TreeError;
 use rart_trie::Count;
+use rart_trie::node::bounds::{bytes_of, slice_bound};
 use std::ops::Bound;
 
 /// Returns whether a lent key is within an end.

@@ -1,14 +1,13 @@
 //! Walks between two bounds that show each key in segments to a callback that can end them.
 ghost use Rattle.std.specs.Prelude.{◌≡◌, ◌≤◌, ◌+◌, IfErr};
 ghost use Rattle.rart_keys.specs.Ranges.{bound_bytes, bound_in};
-ghost use Rattle.rart_nodes.specs.ranges.LentBounds.{lent_bound};
+ghost use Rattle.rart_trie.specs.ranges.LentBounds.{lent_bound};
 ghost use Rattle.rart_nodes.specs.ranges.Spans.{call_visits, cut_between, span_bound, span_visits};
 ghost use Rattle.rart_nodes.specs.tries.SeenTrees.{seen_pairs};
 ghost use Rattle.rart_nodes.specs.walks.Tried.{IfAllocated, MayStopForMemory, OnRefused};
 ghost use Rattle.rart_nodes.specs.walks.TriedViews.{CanTryView, EndsViewVisit, EndsViewVisitByValue, ViewsSo};
 ghost use Rattle.rart_nodes.specs.walks.TriedViews.{ViewsSoByValue};
 
-use crate::node::range::{bytes_of, slice_bound};
 use crate::node::seen::Seen;
 use crate::node::view::LendingKeyView;
 use crate::node::walk::path::SegmentPath;
@@ -16,6 +15,7 @@ use crate::node::walks::control::{VisitControl, VisitError};
 use crate::node::walks::try_views::try_for_each_view_to;
 use rart_keys::KeyTrait;
 use rart_trie::Count;
+use rart_trie::node::bounds::{bytes_of, slice_bound};
 use std::ops::Bound;
 
 impl<'a, K: KeyTrait, V, C: Count> Seen<'a, K, V, C> {

@@ -3,7 +3,7 @@
 // One loop serves them all: a walk without bounds is one that has no end.
 
 ghost use Rattle.std.specs.Prelude.{◌≡◌, ◌≤◌, ◌+◌, ◌*◌, ℕ, [], length, reverse, vec_capacity, IfErr};
-ghost use Rattle.rart_nodes.specs.ranges.LentBounds.{lent_bound};
+ghost use Rattle.rart_trie.specs.ranges.LentBounds.{lent_bound};
 ghost use Rattle.rart_nodes.specs.ranges.Potential.{AreLow};
 ghost use Rattle.rart_nodes.specs.ranges.Spans.{call_visits};
 ghost use Rattle.rart_nodes.specs.tries.SeenTrees.{seen_keys, seen_pairs};

@@ -2,6 +2,7 @@
 ghost use Rattle.std.specs.Prelude.{◌≡◌, option_map, slice_get};
 ghost use Rattle.std.specs.Iterator.{YieldsFirstBy};
 ghost use Rattle.rart_parts.specs.Entries.{BytesAscend, entries_above};
+ghost use Rattle.rart_trie.specs.ranges.Starts.{entries_after};
 ghost use Rattle.rart_trie.specs.storages.Stored.{child_entries};
 ghost use Rattle.rart_trie.specs.walks.Walks.{to_come};
 
@@ -86,6 +87,17 @@ impl<P, V, N> Storage<P, V, N> {
         match self.iter_above(byte).take_next() {
             Some((above, _)) => Some(above),
             None => None,
+        }
+    }
+
+    /// Returns the least byte above `bound` that has a child, or the least of all if there is no bound.
+    pub(crate) fn first_byte_after(&self, bound: Option<u8>) -> Option<u8>
+        ensures { result
+            ≡ option_map (λ e. e.0) (slice_get (entries_after bound (child_entries self.now)) 0) }
+    {
+        match bound {
+            Some(byte) => self.byte_above(byte),
+            None => self.first_byte(),
         }
     }
 }

@@ -7,25 +7,26 @@ ghost use Rattle.std.specs.Iterator.{YieldsFirstBy, item_count};
 ghost use Rattle.std.specs.Ordering.{match_ordering};
 ghost use Rattle.std.specs.Prelude.{◌≡◌, ◌≤◌, ◌+◌, length, reverse, IfErr, IfOk, OnErr, true, false};
 ghost use Rattle.rart_keys.specs.Ranges.{between, bound_bytes, bound_in, is_from};
-ghost use Rattle.rart_nodes.specs.ranges.LentBounds.{lent_bound};
+ghost use Rattle.rart_trie.specs.ranges.LentBounds.{lent_bound};
 ghost use Rattle.rart_nodes.specs.ranges.UpperBounds.{TakesDownTo, down_to, pairs_until, to_bound};
 ghost use Rattle.rart_trie.specs.ranges.Starts.{bytes_taken};
 ghost use Rattle.rart_nodes.specs.tries.SeenTrees.{seen_keys, seen_pairs};
 ghost use Rattle.rart_trie.specs.walks.ProbeCount.{probe_count};
 ghost use Rattle.rart_trie.specs.walks.Calls.{MayLackMemory};
 
-use crate::node::range::{short_start, slice_bound};
+use crate::node::range::short_start;
 use crate::node::seen::Seen;
 use crate::node::walks::descending::KeyBackWalk;
 use rart_keys::{KeyTrait, Partial};
 use rart_parts::TreeError;
+use rart_trie::node::bounds::slice_bound;
 use rart_trie::{Count, Visits};
 use std::cmp::Ordering;
 use std::marker::{Model, PhantomData};
 use std::ops::Bound;
 
 /// Returns whether a key that compares so to a start comes after it. At the start itself, returns `included`.
-pub(crate) fn is_after(at: Ordering, included: bool) -> bool
+fn is_after(at: Ordering, included: bool) -> bool
     ensures { result ≡ match_ordering at false included true }
 {
     match at {

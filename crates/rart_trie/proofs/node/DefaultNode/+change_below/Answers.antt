@@ -2,8 +2,8 @@ use Rattle.std.proofs.Common.{ap, sym, arith, refl}
 use Rattle.rart_trie.specs.storages.Stored.{child_entries, storage_capacity, stored_prefix, stored_value}
 use Rattle.rart_trie.specs.tries.Trie.{prefix_of}
 use Rattle.rart_trie.specs.tries.TrieCode.{node_count}
-use Rattle.rart_trie.proofs.edits.ValueWalkLemmas.{begins-ended, begins-within, changes-absent, changes-apart}
-use Rattle.rart_trie.proofs.edits.ValueWalkLemmas.{child-callable, child-changes, whole-callable, whole-changes}
+use Rattle.rart_trie.proofs.changes.PrefixChangeLemmas.{begins-ended, begins-within, changes-absent, changes-apart}
+use Rattle.rart_trie.proofs.changes.PrefixChangeLemmas.{child-callable, child-changes, whole-callable, whole-changes}
 use Rattle.rart_trie.proofs.storages.EntryPlaces.{child-canonical}
 use Rattle.rart_trie.proofs.storages.ChildLemmas.{canonical-found, count-found}
 use Rattle.rart_trie.proofs.node.DefaultNode.+change_below.Goals.{in-Some-seek_child_mut, in_default-seek_child_mut}

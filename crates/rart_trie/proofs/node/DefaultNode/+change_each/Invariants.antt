@@ -1,5 +1,7 @@
+use Rattle.std.proofs.Common.{[]}
+use Rattle.rart_keys.specs.ByteStrings.{begins}
 use Rattle.rart_trie.specs.storages.Stored.{child_entries, storage_capacity, stored_prefix, stored_value}
-use Rattle.rart_trie.proofs.edits.ValueWalkLemmas.{Changing}
+use Rattle.rart_trie.proofs.changes.ValueWalkLemmas.{Changing}
 use Rattle.rart_trie.proofs.storages.EntryPlaces.{ahead_count}
 use Rattle.rart_trie.proofs.node.DefaultNode.+change_each.Given as goal
 
@@ -7,7 +9,7 @@ abbrev pub decreases-change_each : goal.decreases-change_each
 decreases-change_each g l = goal.size-change_each g l
 
 abbrev pub invariant-loop-next : goal.invariant-loop-next
-invariant-loop-next g l = Changing g.F.FnMut l.fn.f l.fn.self l.f
+invariant-loop-next g l = Changing g.F.FnMut (begins []) l.fn.f l.fn.self l.f
     (g.P.Partial.bytes (stored_prefix l.self-inside.storage))
     (stored_value l.self-inside.storage) (storage_capacity l.self-inside.storage) (child_entries
     l.self-inside.storage) l.next

@@ -1,6 +1,6 @@
 use Rattle.std.proofs.Common.{arith, ap, length}
 use Rattle.rart_keys.specs.Ranges.{between}
-use Rattle.rart_nodes.specs.ranges.LentBounds.{lent_bound}
+use Rattle.rart_trie.specs.ranges.LentBounds.{lent_bound}
 use Rattle.rart_trie.specs.tries.Tree.{tree_pairs}
 use Rattle.rart_nodes.proofs.ranges.CountedBounds.{path-probes}
 use Rattle.rart_nodes.proofs.node.seen.Seen.count_range_bytes_counted.Goals as goal

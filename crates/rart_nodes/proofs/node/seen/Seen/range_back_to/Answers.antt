@@ -1,7 +1,7 @@
 use Rattle.std.proofs.Common.{ap, reverse, ◌∙◌}
 use Rattle.std.specs.Option.{option_copied}
 use Rattle.rart_keys.specs.Ranges.{bound_in}
-use Rattle.rart_nodes.specs.ranges.LentBounds.{lent_bound}
+use Rattle.rart_trie.specs.ranges.LentBounds.{lent_bound}
 use Rattle.rart_nodes.specs.ranges.UpperBounds.{down_to}
 use Rattle.rart_nodes.proofs.ranges.DownLemmas.{down_to-tree}
 use Rattle.rart_trie.proofs.tries.CanonicalTests.{IsCanonicalTree-test}

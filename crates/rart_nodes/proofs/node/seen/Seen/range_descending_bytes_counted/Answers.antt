@@ -2,7 +2,7 @@ use Rattle.std.proofs.Common.{◌≡◌, ℕ, List, IfOk, refl, reverse, subst}
 use Rattle.std.specs.Option.{option_copied}
 use Rattle.rart_keys.specs.Ranges.{bound_in}
 use Rattle.rart_trie.specs.tries.Tree.{tree_pairs}
-use Rattle.rart_nodes.specs.ranges.LentBounds.{lent_bound}
+use Rattle.rart_trie.specs.ranges.LentBounds.{lent_bound}
 use Rattle.rart_nodes.specs.ranges.UpperBounds.{down_to}
 use Rattle.rart_nodes.proofs.ranges.LongBounds.{between-short}
 use Rattle.rart_nodes.proofs.node.seen.Seen.range_descending_bytes_counted.Goals as goal

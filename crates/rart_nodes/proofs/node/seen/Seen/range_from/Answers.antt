@@ -2,7 +2,7 @@ use Rattle.std.proofs.Common.{ap, ◌∙◌}
 use Rattle.std.specs.Option.{option_copied}
 use Rattle.rart_keys.specs.Ranges.{bound_in, pairs_from, up_to}
 use Rattle.rart_trie.specs.tries.Tree.{tree_pairs}
-use Rattle.rart_nodes.specs.ranges.LentBounds.{lent_bound}
+use Rattle.rart_trie.specs.ranges.LentBounds.{lent_bound}
 use Rattle.rart_nodes.proofs.ranges.RangeCuts.{from_bound-between}
 use Rattle.rart_trie.proofs.tries.CanonicalTests.{IsCanonicalTree-test}
 use Rattle.rart_nodes.proofs.node.seen.Seen.range_from.Goals as goal

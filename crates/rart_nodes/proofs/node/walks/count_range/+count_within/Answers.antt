@@ -1,6 +1,6 @@
 use Rattle.std.proofs.Common.{◌≡◌, ◌≤◌, ◌+◌, ◌*◌, ◌++◌, ℕ, Some, arith, ap, length, subst, sym, ◌∙◌}
-use Rattle.rart_nodes.specs.ranges.BoundCuts.{bound_past, path_count}
-use Rattle.rart_nodes.specs.ranges.LentBounds.{lent_bound}
+use Rattle.rart_trie.specs.ranges.BoundCuts.{bound_past, path_count}
+use Rattle.rart_trie.specs.ranges.LentBounds.{lent_bound}
 use Rattle.rart_trie.specs.declared.node.ends.End.TheVariants.{First, Last}
 use Rattle.rart_trie.specs.tries.Trie.{children_in, children_pairs, own_pair, pairs_of, prefix_of, value_of}
 use Rattle.rart_trie.specs.tries.Trie.{AreCanonical}

@@ -2,7 +2,7 @@ use Rattle.std.proofs.Common.{◌≡◌, ◌+◌, ◌++◌, ◌≤◌, length}
 use Rattle.rart_keys.specs.Ranges.{between}
 use Rattle.rart_trie.specs.tries.Trie.{children_in, children_pairs, own_pair, value_of, AreCanonical}
 use Rattle.rart_trie.specs.tries.TrieCode.{child_count, node_count}
-use Rattle.rart_nodes.specs.ranges.LentBounds.{lent_bound}
+use Rattle.rart_trie.specs.ranges.LentBounds.{lent_bound}
 use Rattle.rart_nodes.proofs.ranges.CountedBounds.{most_below}
 use Rattle.rart_nodes.proofs.node.walks.count_range.+count_within.Given as goal
 

@@ -2,7 +2,7 @@ use Rattle.std.proofs.Common.{arith, rules, of_calls, ◌≡◌, [], ◌∷◌, 
 use Rattle.std.specs.Option.{option_copied}
 use Rattle.rart_trie.specs.ranges.Starts.{entries_to}
 use Rattle.rart_trie.specs.walks.Walk.{SegmentList, entries_ahead}
-use Rattle.rart_nodes.specs.ranges.LentBounds.{lent_bound}
+use Rattle.rart_trie.specs.ranges.LentBounds.{lent_bound}
 use Rattle.rart_nodes.specs.walks.PathParts.{lent_segments, one_segment}
 use Rattle.rart_nodes.specs.walks.ViewSegments.{AreViews}
 use Rattle.rart_nodes.specs.walks.Viewed.{Viewed, ViewsEach}

@@ -1,6 +1,6 @@
 use Rattle.std.proofs.Common.{ℕ, ◌≤◌, ◌+◌, ◌*◌, length, reverse, vec_capacity}
 use Rattle.std.specs.Option.{option_copied}
-use Rattle.rart_nodes.specs.ranges.LentBounds.{lent_bound}
+use Rattle.rart_trie.specs.ranges.LentBounds.{lent_bound}
 use Rattle.rart_nodes.specs.ranges.Potential.{AreLow, potential}
 use Rattle.rart_trie.specs.ranges.Starts.{entries_to}
 use Rattle.rart_trie.specs.walks.Walk.{IsWalk, entries_ahead}

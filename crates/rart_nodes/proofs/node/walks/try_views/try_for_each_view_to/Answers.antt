@@ -1,6 +1,6 @@
 use Rattle.std.proofs.Common.{arith, rules, of_calls, ◌≡◌, ◌+◌, [], ◌∷◌, ap, subst, sym, refl, ◌∙◌, Ok, Err}
 use Rattle.std.specs.Option.{option_copied}
-use Rattle.rart_nodes.specs.ranges.LentBounds.{lent_bound}
+use Rattle.rart_trie.specs.ranges.LentBounds.{lent_bound}
 use Rattle.rart_nodes.specs.declared.node.walks.control.VisitControl.TheVariants.{Continue, Stop}
 use Rattle.rart_nodes.specs.walks.PathParts.{lent_segments, one_segment}
 use Rattle.rart_nodes.specs.walks.TriedViews.{ViewedAs}

@@ -1,20 +1,20 @@
 -- A bound for keys that begin with some bytes: which keys are within it, by the bytes that follow.
-use Rattle.std.proofs.Common.{◌≡◌, ℕ, ◌+◌, ◌≤◌, ⊎_elim, Bool, true, false, List, [], ◌∷◌, ◌++◌, Option, Some, None}
-use Rattle.std.proofs.Common.{refl, sym, ap, ◌∙◌, arith, Less, Equal, Greater, ◌||◌}
-use Rattle.std.specs.Ordering.{nat_cmp}
+use Rattle.std.proofs.Common.{◌≡◌, ℕ, zero, suc, ◌≤◌, ⊎_elim, Bool, true, false, List, [], ◌∷◌, ◌++◌, Option, Some}
+use Rattle.std.proofs.Common.{None, refl, sym, ap, ◌∙◌, arith, Less, Equal, Greater, ◌||◌}
+use Rattle.std.specs.Ordering.{nat_cmp, match_ordering}
 use Rattle.std.specs.Cmp.Lexicographic.{slice_cmp}
 use Rattle.std.specs.declared.cmp.Ordering.{Ordering}
 use Rattle.std.specs.declared.ops.Bound.{Bound}
 use Rattle.std.specs.declared.ops.Bound.TheVariants.{Included, Excluded, Unbounded}
 use Rattle.rart_keys.specs.ByteStrings.{strip_prefix}
+use Rattle.rart_keys.specs.Ranges.{bound_bytes}
 use Rattle.rart_keys.proofs.strings.ByteOrder.{order, is_less, is_equal, is_greater}
 use Rattle.rart_keys.proofs.maps.RangeLemmas.{cmp-apart, cmp-past, not-same}
 use Rattle.rart_trie.specs.declared.node.ends.End.{End}
 use Rattle.rart_trie.specs.declared.node.ends.End.TheVariants.{First, Last}
-use Rattle.rart_trie.specs.tries.Trie.{StartsWith, by_rest}
-use Rattle.rart_nodes.specs.ranges.BoundCuts.{bound_at, bound_by, bound_past, bound_with, first_cmp, is_bounded, is_in}
-use Rattle.rart_nodes.specs.ranges.BoundCuts.{is_inside, rest_past, unbounded_if}
-use Rattle.rart_nodes.proofs.ranges.ComparedEntries.{is_after, is_before}
+use Rattle.rart_trie.specs.ranges.BoundCuts.{bound_at, bound_by, bound_past, bound_with, byte_below, first_cmp}
+use Rattle.rart_trie.specs.ranges.BoundCuts.{is_bounded, is_in, is_inside, rest_past, unbounded_if}
+use Rattle.rart_trie.specs.tries.Trie.{StartsWith}
 
 -- whether a key is within a bound, if there is one
 abbrev pub is_in_some : End → Option (Bound (List ℕ)) → List ℕ → Bool
@@ -23,8 +23,8 @@ is_in_some e (Some a) k = is_in e a k
 
 -- by how it compares with the bound's bytes
 abbrev is_by : End → Bool → Ordering → Bool
-is_by First h o = is_after h o
-is_by Last h o = is_before h o
+is_by First h o = match_ordering o false h true
+is_by Last h o = match_ordering o true h false
 
 in-with : (e : End) (h : Bool) (s k : List ℕ) → is_in e (bound_with h s) k ≡ is_by e h (slice_cmp nat_cmp k s)
 in-with First true s k = refl
@@ -100,25 +100,21 @@ later-none (Excluded (x ∷ s)) c d l h = ⊎_elim (λ i. let g = rw (is_less c 
     (⊎_elim (λ i. let g = rw (is_equal c x i) at h in absurd (cc))
     (λ i. rw (is_greater d x (omega (arith, i, l))) refl)) (order c x)
 
+-- nor is a child before the first byte of a start
+pub none-before : (a : Bound (List ℕ)) (b c : ℕ) → byte_below (bound_bytes a) ≡ Some b → c ≤ b
+    → bound_at First c a ≡ None
+none-before Unbounded b c h l = absurd (cc)
+none-before (Included []) b c h l = absurd (cc)
+none-before (Included (zero ∷ s)) b c h l = absurd (cc)
+none-before (Included (suc x ∷ s)) b c h l = let i : x ≡ b = cc in rw (is_less c (suc x) (omega (arith, i, l))) refl
+none-before (Excluded []) b c h l = absurd (cc)
+none-before (Excluded (zero ∷ s)) b c h l = absurd (cc)
+none-before (Excluded (suc x ∷ s)) b c h l = let i : x ≡ b = cc in rw (is_less c (suc x) (omega (arith, i, l))) refl
+
 pub no-bytes : (a : Bound (List ℕ)) → is_bounded a ≡ false → a ≡ Unbounded
 no-bytes Unbounded h = refl
 no-bytes (Included s) h = absurd (cc)
 no-bytes (Excluded s) h = absurd (cc)
-
--- 1 where there is a bound
-abbrev pub one_if : Bool → ℕ
-one_if true = 1
-one_if false = 0
-
-pub some-by : (r : Option (List ℕ)) (f : ℕ → List ℕ → ℕ) → 1 ≤ by_rest 1 1 (λ n. 1 + n) r f
-some-by None f = omega arith
-some-by (Some []) f = omega arith
-some-by (Some (b ∷ r)) f = omega arith
-
-pub one-of : (x y : Bool) → x || y ≡ true → 1 ≤ one_if x + one_if y
-one-of true y h = omega arith
-one-of false true h = omega arith
-one-of false false h = absurd (cc)
 
 pub none-of : (x y : Bool) → x || y ≡ false → (x ≡ false) × (y ≡ false)
 none-of true y h = absurd (cc)

@@ -1,0 +1,4 @@
+pub mod PrefixChangeLemmas
+pub mod RangeChangeLemmas
+pub mod ValueChangeLemmas
+pub mod ValueWalkLemmas
