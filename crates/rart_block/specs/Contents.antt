@@ -1,5 +1,5 @@
 -- What a block holds: a header in two parts, and its items in order.
-use Rattle.std.specs.Prelude.{List, [], ◌∷◌, Option, None, Some, refl}
+use Rattle.std.specs.Prelude.{ℕ, List, [], ◌∷◌, Option, None, Some, refl, replicate}
 use Rattle.std.specs.Coded.{Coded, code_by, coded×, coded_list}
 
 pub record Contents (H K T : Type 0) : Type 0 where
@@ -20,6 +20,10 @@ with_keys c k = record { head = c.head; keys = k; items = c.items }
 
 abbrev pub with_items : {H K T : Type 0} → Contents H K T → List T → Contents H K T
 with_items c xs = record { head = c.head; keys = c.keys; items = xs }
+
+-- contents with this many vacant slots
+abbrev pub all_vacant : {H K T : Type 0} → ℕ → H → K → Contents H K (Option T)
+all_vacant width h k = record { head = h; keys = k; items = replicate width None }
 
 -- the items in slots, in order
 abbrev pub items_in : {X : Type 0} → List (Option X) → List X

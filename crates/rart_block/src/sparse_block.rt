@@ -1,7 +1,7 @@
 //! A sparse block, which a contract reads as its header, its keys and the list of its slots.
 
 ghost use Rattle.std.specs.Prelude.{◌≡◌, ◌<◌, None, Some, IsSome, IfOk, IfErr, get_or, slice_set, replicate};
-ghost use Rattle.rart_block.specs.Contents.{with_items};
+ghost use Rattle.rart_block.specs.Contents.{all_vacant, with_items};
 
 use crate::raw::Room;
 use crate::raw_sparse::{RawSparseBlock, Slots};
@@ -50,7 +50,7 @@ impl<H, K, T, const W: usize> SparseBlock<H, K, T, W> {
     ///
     /// The header and the keys, if the allocation fails or can't have `W` slots.
     pub fn new(alloc: Global, head: H, keys: K) -> Result<Self, (H, K)>
-        ensures ok { IfOk result (λ b. b ≡ record { head = head; keys = keys; items = replicate W None }) }
+        ensures ok { IfOk result (λ b. b ≡ all_vacant W head keys) }
         ensures unchanged { IfErr result (λ e. e ≡ (head, keys)) }
     {
         if !may_hold::<T>(W) {

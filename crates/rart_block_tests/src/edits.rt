@@ -39,7 +39,7 @@ fn answer<const W: usize>(block: &mut Few<W>, edit: Edit) -> Option<u16> {
     }
 }
 
-// The same of a vector that holds at most `width` items; None where memory was refused.
+// The answer of an edit by a vector that holds at most `width` items; None where memory was refused.
 fn wanted(items: &mut Vec<u16>, width: usize, edit: Edit) -> Option<Option<u16>> {
     let len = items.len();
     let found = match edit {

@@ -11,7 +11,7 @@ use std::mem::size_of;
 
 type Bytes<const W: usize> = SparseBlock<u64, [u8; 2], u8, W>;
 
-// Stores an item, writes to it, and takes it out: what was read each time, and what is left of the block.
+// Stores an item, writes to it, and takes it out: what was read each time, and the block without it.
 fn round<const W: usize>(mut block: Bytes<W>, at: usize) -> ([u8; 4], u64, [u8; 2])
     requires { (at < W) × (block.items ≡ replicate W None) }
 {

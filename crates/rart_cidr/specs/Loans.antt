@@ -14,7 +14,7 @@ abbrev pub lends_target : (T : RattleType) → MutBor (List (List ℕ × T.Denot
 lends_target T stride code lent = LendsSo (the_row T) T stride lent
     (λ s w. OnSome lent (s ≡ put (code ∷ []) w stride.now)) (λ s. s ≡ stride.now)
 
--- the same of the targets of a stride
+-- `lends_target` of the targets of a stride
 abbrev pub lends_at : (T : RattleType) → MutBor (Targets T.Denot) → ℕ → Option (MutBor T.Denot) → Fml
 lends_at T held code lent = LendsSo (targets.the_row T) T held lent
     (λ s w. OnSome lent (pairs_of s ≡ put (code ∷ []) w (pairs_of held.now))) (λ s. pairs_of s ≡ pairs_of held.now)

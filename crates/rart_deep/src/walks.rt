@@ -55,7 +55,7 @@ fn count_from_ends(pairs: &mut BothEnds<'_, Key, u64>) -> usize {
     count
 }
 
-// The same of values.
+// Returns the number of values that 513 turns of both ends give.
 fn count_values_from_ends(values: &mut ValuesBothEnds<'_, Key, u64>) -> usize {
     let mut count: usize = 0;
     for _turn in 0..513 {
@@ -69,7 +69,7 @@ fn count_values_from_ends(values: &mut ValuesBothEnds<'_, Key, u64>) -> usize {
     count
 }
 
-// The same of a part.
+// Returns the number of pairs of a part that 513 turns of both ends give.
 fn count_part_from_ends(pairs: &mut BothEndsWithin<'_, Key, u64>) -> usize {
     let mut count: usize = 0;
     for _turn in 0..513 {

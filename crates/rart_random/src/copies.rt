@@ -17,7 +17,7 @@ fn is_apart<K: KeyTrait + Drop>(
     Some(was_equal && is_changed && *copy == *tree && other.is_empty())
 }
 
-// The same with another clone; none if memory was refused.
+// `is_apart` with another clone; none if memory was refused.
 fn is_apart_from_two<K: KeyTrait + Drop>(copy: &mut Tree<K>, tree: &Tree<K>) -> Option<bool> {
     match tree.clone() {
         Ok(mut other) => is_apart(copy, &mut other, tree),
@@ -25,7 +25,7 @@ fn is_apart_from_two<K: KeyTrait + Drop>(copy: &mut Tree<K>, tree: &Tree<K>) -> 
     }
 }
 
-// The same of two clones.
+// `is_apart_from_two` of two clones.
 fn is_cloned<K: KeyTrait + Drop>(tree: &Tree<K>) -> Option<bool> {
     match tree.clone() {
         Ok(mut copy) => is_apart_from_two(&mut copy, tree),
@@ -78,7 +78,7 @@ fn is_parted<K: KeyTrait + Drop>(tree: &Tree<K>, prefix: &K) -> Option<bool> {
     }
 }
 
-// The same of the first half of the key.
+// `is_parted` at the first half of the key.
 fn is_parted_at<K: KeyTrait + Drop>(tree: &Tree<K>, text: &Text) -> Option<bool> {
     let key = key_of::<K>(text)?;
     is_parted(tree, &key.truncate(key.as_ref().len() / 2))

@@ -119,7 +119,7 @@ fn up_to_wrong<K: KeyTrait + Drop>(
     }
 }
 
-// The same of the list without a stretch.
+// The calls up to the first wrong one of the list without a stretch.
 fn up_to_wrong_without<K: KeyTrait + Drop>(
     alloc: Global,
     case: &Case,

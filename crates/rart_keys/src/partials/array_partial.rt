@@ -67,6 +67,7 @@ impl<const SIZE: usize> ArrPartial<SIZE> {
         }
     }
 
+    // Returns the code of the length.
     #[inline(always)]
     fn code(&self) -> u16
         ensures { result ≡ joined_code self.now.code_low self.now.code_high }

@@ -249,9 +249,7 @@ impl FourKeys {
         self.keys = [255; 4];
         self.count = 0;
     }
-}
 
-impl FourKeys {
     /// Frees a block without children and returns the extra value. `N` needs no `Drop`.
     pub fn destroy_empty<N, E>(self, children: Block<E, (), N, 4>) -> E
         requires each { HasKeyEach self children }

@@ -27,7 +27,7 @@ fn kept<K: KeyTrait + Drop>(refusal: Refused<Tree<K>>, tree: &Tree<K>) -> Option
     }
 }
 
-// The same of the clone itself.
+// The sum of the first pairs of the clone itself, and of the count of the others.
 fn sum_of<K: KeyTrait + Drop>(copy: Tree<K>, tree: &Tree<K>, call: &Call) -> Option<u64> {
     match copy.into_pairs() {
         Ok(mut pairs) => Some(sum_owned(&mut pairs, most_of(call))),
@@ -43,7 +43,7 @@ pub fn owned<K: KeyTrait + Drop>(tree: &Tree<K>, call: &Call) -> Option<u64> {
     }
 }
 
-/// The same of the model.
+/// What `owned` is to be, by the model.
 pub fn wanted_owned(model: &Model, call: &Call) -> u64 {
     let most = most_of(call);
     let len = model.len() as u64;

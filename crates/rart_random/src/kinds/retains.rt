@@ -97,7 +97,7 @@ pub fn retain<K: KeyTrait + Drop>(tree: &mut Tree<K>, call: &Call) -> Option<u64
     answered(answer, sum)
 }
 
-/// The same of the model.
+/// What the retention is to be, by the model.
 pub fn wanted_retain(model: &mut Model, call: &Call) -> u64 {
     let rule = Rule::new(call, model.len());
     let sum = model.sum(0, model.len(), true);

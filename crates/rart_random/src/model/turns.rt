@@ -7,12 +7,12 @@ use crate::model::{Model, Pair};
 use crate::numbers::{mix, mix_pair};
 use crate::text::Text;
 
-// Whether the walk counts what is left.
+// Whether the walk counts the items that it has not given.
 fn counts(call: &Call) -> bool {
     call.kind < 44
 }
 
-// The sum with the count of what is left, where the walk counts it.
+// The sum with the count of these items, where the walk counts them.
 fn mix_left(sum: u64, left: usize, call: &Call) -> u64 {
     if counts(call) {
         mix(sum, left as u64)

@@ -94,7 +94,7 @@ fn extends_routes(table: &mut RouteTable<Key, u64>, row: &Row) -> bool {
     extended && more_read.get() == row.more.len() && has_routes(table, row.wanted)
 }
 
-// The same of a route table, whose pairs are looked up.
+// Whether a route table gets the pairs of a row, which are looked up.
 fn are_routes(alloc: Global, row: &Row) -> bool {
     let first_read = Cell::new(0_usize);
     match RouteTable::<Key, u64>::from_pairs(alloc, read(row.first, &first_read)) {
@@ -176,7 +176,7 @@ fn is_made_well(made: &Result<Tree<Key>, Refused<(Key, u64)>>, was: bool, read: 
     }
 }
 
-// The same of a new tree.
+// A new tree from the pairs, with a request refused.
 fn from_pairs_refused(alloc: Global, at: usize) -> Option<bool> {
     let count = Cell::new(0_usize);
     refuse(alloc, at);

@@ -289,7 +289,7 @@ fn unique_refused(alloc: Global, at: usize) -> Result<Option<bool>, AllocError> 
     Ok(drops_each(result, refused, 64, &drops).then_some(refused))
 }
 
-// The same of the keys by index.
+// A load of the keys by index, with a request refused.
 fn keys_refused(
     alloc: Global,
     items: &[(Key, Counted<'_>)],

@@ -196,7 +196,7 @@ fn count_refused_of_open(alloc: Global, old: &Tree) -> Option<usize> {
     None
 }
 
-// The same of a walk over all pairs.
+// How many requests of a walk over all pairs were refused before none was; None where one failed.
 fn count_refused_of_walk(alloc: Global, old: &Tree) -> Option<usize> {
     for at in 1..100_usize {
         refuse(alloc, at);

@@ -198,7 +198,7 @@ module _ {F V : Type 0} (call : Mut F (Bor (List ℕ) × (MutBor V × Unit {0}))
       (with_prefix (q ++ p) (children_pairs (as_children i.rest)))
       (calls-folds call (q ++ p) (pairs_of u) xs f g l a) i.later
 
-  -- what is left to prove of a step, and what it proves
+  -- the premises of a step, and its conclusion
   abbrev Steps : (q : List ℕ) (f0 : F) (t0 : Trie V) (keeps holds : Bool) (walk : Retention) (g : F) (p : List ℕ)
       (w : Option V) (m b : ℕ) (es ds : List (ℕ × Trie V)) (next : Option ℕ) → Type 0
   Steps q f0 t0 keeps holds walk g p w m b es ds next = Retaining call q f0 t0 keeps holds walk g p w m ds next

@@ -19,14 +19,14 @@ IsKeyed (Node16 p m) = Unit {0}
 IsKeyed (Node48 p m) = Unit {0}
 IsKeyed (Node256 p m) = Unit {0}
 
--- where the child at a byte is in a node of at most four children; of other kinds nothing is said
+-- where the child at a byte is in a node of at most four children; in other kinds it is nowhere
 abbrev pub IsFourPlace : {P V N : Type 0} → ℕ → Kind P V N → Option ℕ → Type 0
-IsFourPlace byte (Empty p) at = Unit {0}
-IsFourPlace byte (Leaf p v) at = Unit {0}
+IsFourPlace byte (Empty p) at = at ≡ None
+IsFourPlace byte (Leaf p v) at = at ≡ None
 IsFourPlace byte (Node4 p k b) at = MatchOption at (child_at byte (four_entries k b) ≡ None) (IsChildPlace k b byte)
-IsFourPlace byte (Node16 p m) at = Unit {0}
-IsFourPlace byte (Node48 p m) at = Unit {0}
-IsFourPlace byte (Node256 p m) at = Unit {0}
+IsFourPlace byte (Node16 p m) at = at ≡ None
+IsFourPlace byte (Node48 p m) at = at ≡ None
+IsFourPlace byte (Node256 p m) at = at ≡ None
 
 module _ (P V N : Type 0) where
   abbrev Block4 : Type 0

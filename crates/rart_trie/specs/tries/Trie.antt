@@ -190,7 +190,7 @@ collapsed_node p None (child b (node q v n cs) no_children) = Some (node (p ++ q
 collapsed_node p None (child b t (child c u cs)) = Some (fitting_node p None (child b t (child c u cs)))
 collapsed_node p (Some v) cs = Some (fitting_node p (Some v) cs)
 
--- what is left without a key, by the rest of the key after the prefix
+-- a node without a key, by the rest of the key after the prefix
 abbrev pub removed_after : {V : Type 0} → Option (List ℕ) → List ℕ → Option V → Children V → (ℕ → List ℕ → Children V)
     → Option (Trie V)
 removed_after None p v cs f = collapsed_node p v cs

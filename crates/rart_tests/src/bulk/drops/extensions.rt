@@ -161,7 +161,7 @@ fn is_made_whole(
     }
 }
 
-// The same of a new tree.
+// A new tree from the pairs, with a request refused.
 fn from_pairs_refused(alloc: Global, at: usize) -> Option<bool> {
     let drops = Cell::new(0_usize);
     let items = items(alloc, &KEYS, 0, &drops).ok()?;

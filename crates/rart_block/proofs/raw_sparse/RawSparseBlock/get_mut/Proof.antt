@@ -102,7 +102,7 @@ module _ (P : Parts) {M : Type 1} {𝓤 : Ura M} (𝓛 : Logic 𝓤) (at_mem : M
   abbrev lent : ℕ → ℕ → P.item.Denot → GName → MutBor P.item.Denot
   lent k o x δ = record { ref_ptr = (k, o); ghost_name = δ; now = x }
 
-  -- the item's loan, the token of its lifetime, and that the block ends with what is left in the item
+  -- the item's loan, the token of its lifetime, and that the block ends with the item as its borrower leaves it
   abbrev Lent : ℕ → ℕ → P.item.Denot → GName → Item 𝓤
   Lent k o x δ = ‵ ((MutRef (named 0) κ (X P)).own_val (lent k o x δ) (vptr k o ∷ [])) ⊛ ‵ (flft κ q)
       ⊛ ‵ (follows (Sparse P) (X P) γ δ new)

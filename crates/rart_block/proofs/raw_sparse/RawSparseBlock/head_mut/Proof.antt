@@ -65,7 +65,7 @@ module _ (P : Parts) {M : Type 1} {𝓤 : Ura M} (𝓛 : Logic 𝓤) (at_mem : M
   abbrev lent : ℕ → ℕ → GName → MutBor P.head.Denot
   lent k o δ = record { ref_ptr = (k, o); ghost_name = δ; now = b.head }
 
-  -- the header's loan, the token of its lifetime, and that the block ends with what is left in the header
+  -- the header's loan, the token of its lifetime, and that the block ends with the header as its borrower leaves it
   abbrev Lent : ℕ → ℕ → GName → Item 𝓤
   Lent k o δ = ‵ ((MutRef (named 0) κ (H P)).own_val (lent k o δ) (vptr k o ∷ [])) ⊛ ‵ (flft κ q)
       ⊛ ‵ (follows (Sparse P) (H P) γ δ (with_head b))

@@ -1,4 +1,4 @@
--- `vacate` reads the header, and what is left is room again. Assumes `Logic`.
+-- `vacate` reads the header, and its bytes are room again, as the slots are. Assumes `Logic`.
 use Rattle.rart_block.proofs.Walk.{◌≡◌, refl, sym, subst, List, [], ◌∷◌, ◌++◌, ℕ, ◌+◌, ◌<◌, ◌^◌}
 use Rattle.rart_block.proofs.Walk.{Ura, Fn, ty_array, inst_fn, Val, vstruct, vcons, vnil, full_share, Fml, Lft}
 use Rattle.rart_block.proofs.Walk.{Share, fat, flft, froom, ftrue, SProp, ent, apply∗, Memory, size, Routine, Calls}

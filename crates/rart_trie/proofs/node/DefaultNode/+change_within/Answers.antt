@@ -1,4 +1,4 @@
-use Rattle.std.proofs.Common.{◌≡◌, ℕ, Some, refl, arith, ap, ◌∙◌, sym}
+use Rattle.std.proofs.Common.{◌≡◌, ℕ, Some, arith, ap, ◌∙◌, sym}
 use Rattle.rart_trie.specs.declared.node.ends.End.TheVariants.{First, Last}
 use Rattle.rart_trie.specs.ranges.BoundCuts.{bound_past}
 use Rattle.rart_trie.specs.ranges.LentBounds.{lent_bound}

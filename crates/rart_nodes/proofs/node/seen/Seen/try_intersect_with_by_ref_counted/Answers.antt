@@ -27,7 +27,9 @@ intersect_trees-requires-clause-callable g c =
 pub returns-in-Ok-intersect_trees-clause-calls : goal.returns-in-Ok-intersect_trees-clause-calls
 returns-in-Ok-intersect_trees-clause-calls g c =
     let m = join (tree_pairs (option_copied c.args.self.root)) (tree_pairs (option_copied c.args.other.root)) in
-    tries-ends (λ p x a q. AnsweredAt g.F.FnMut g.K.KeyTrait.bytes p x a q) c.args.f.now c.intersect_trees.new.f m (Ok tt) (tried-whole (λ p x a q. AnsweredAt g.F.FnMut g.K.KeyTrait.bytes p x a q) c.in-Ok.bytes.items c.args.f.now
+    tries-ends (λ p x a q. AnsweredAt g.F.FnMut g.K.KeyTrait.bytes p x a q)
+    c.args.f.now c.intersect_trees.new.f m (Ok tt)
+    (tried-whole (λ p x a q. AnsweredAt g.F.FnMut g.K.KeyTrait.bytes p x a q) c.in-Ok.bytes.items c.args.f.now
     c.intersect_trees.new.f m (Ok tt) c.in-Ok.ensures.items c.in-Ok-intersect_trees.ensures.calls)
 
 pub returns-in-Ok-intersect_trees-clause-stays_callable : goal.returns-in-Ok-intersect_trees-clause-stays_callable
@@ -38,8 +40,11 @@ returns-in-Ok-intersect_trees-clause-stays_callable g c = always-after-tried-at 
 pub returns-in-Err-Ok-clause-calls : goal.returns-in-Err-Ok-clause-calls
 returns-in-Err-Ok-clause-calls g c =
     let m = join (tree_pairs (option_copied c.args.self.root)) (tree_pairs (option_copied c.args.other.root)) in
-    tries-ends (λ p x a q. AnsweredAt g.F.FnMut g.K.KeyTrait.bytes p x a q) c.args.f.now c.intersect_trees.new.f m (Err (Ok tt)) (tried-whole (λ p x a q. AnsweredAt g.F.FnMut g.K.KeyTrait.bytes p x a q) c.in-Ok.bytes.items c.args.f.now
-    c.intersect_trees.new.f m (Err (Ok tt)) c.in-Ok.ensures.items (rw c.in-Err-Ok.field-0-is at c.in-Err-Ok.ensures.calls))
+    tries-ends (λ p x a q. AnsweredAt g.F.FnMut g.K.KeyTrait.bytes p x a q)
+    c.args.f.now c.intersect_trees.new.f m (Err (Ok tt))
+    (tried-whole (λ p x a q. AnsweredAt g.F.FnMut g.K.KeyTrait.bytes p x a q) c.in-Ok.bytes.items c.args.f.now
+    c.intersect_trees.new.f m (Err (Ok tt))
+    c.in-Ok.ensures.items (rw c.in-Err-Ok.field-0-is at c.in-Err-Ok.ensures.calls))
 
 pub returns-in-Err-Ok-clause-stays_callable : goal.returns-in-Err-Ok-clause-stays_callable
 returns-in-Err-Ok-clause-stays_callable g c = always-after-tried-at g.F.FnMut g.K.KeyTrait.bytes _ _ _ _
@@ -49,7 +54,9 @@ returns-in-Err-Ok-clause-stays_callable g c = always-after-tried-at g.F.FnMut g.
 pub returns-clause-calls : goal.returns-clause-calls
 returns-clause-calls g c =
     let m = join (tree_pairs (option_copied c.args.self.root)) (tree_pairs (option_copied c.args.other.root)) in
-    tries-ends (λ p x a q. AnsweredAt g.F.FnMut g.K.KeyTrait.bytes p x a q) c.args.f.now c.intersect_trees.new.f m (Err (Err c.in-Err-Err.error)) (tried-whole (λ p x a q. AnsweredAt g.F.FnMut g.K.KeyTrait.bytes p x a q)
+    tries-ends (λ p x a q. AnsweredAt g.F.FnMut g.K.KeyTrait.bytes p x a q)
+    c.args.f.now c.intersect_trees.new.f m (Err (Err c.in-Err-Err.error))
+    (tried-whole (λ p x a q. AnsweredAt g.F.FnMut g.K.KeyTrait.bytes p x a q)
     c.in-Ok.bytes.items c.args.f.now c.intersect_trees.new.f m (Err (Err c.in-Err-Err.error)) c.in-Ok.ensures.items
     (rw c.in-Err-Err.field-0-is at c.in-Err-Err.ensures.calls))
 
