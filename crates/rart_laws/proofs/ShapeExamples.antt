@@ -1,6 +1,8 @@
 -- Rows of the definitions, by computation.
 use Rattle.std.proofs.Common.{◌≡◌, ℕ, zero, suc, List, [], ◌∷◌, ◌++◌, refl, Option, Some, None, Bool, true, false}
-use Rattle.std.proofs.Common.{codes, decimal}
+use Rattle.std.proofs.Common.{◌<◌, ◌^◌, arith, codes, decimal}
+use Rattle.std.specs.Fmt.{◌++?◌}
+use Rattle.std.proofs.lemmas.Fmt.{decimal-digits_of}
 use Rattle.rart_trie.specs.edits.EditRuns.{Edit, puts, removes, run_tree}
 use Rattle.rart_trie.specs.edits.InsertAllocations.{insert_allocates}
 use Rattle.rart_trie.specs.walks.Cut.{cut}
@@ -139,6 +141,36 @@ visits-no_right (k ∷ s) = refl
 abbrev three_words : List (Edit ℕ)
 three_words = puts (codes "cat") 1 ∷ puts (codes "catalog") 2 ∷ puts (codes "dog") 3 ∷ []
 
+abbrev three_words_outline : List ℕ
+three_words_outline = codes "Node4 \"\"\n  Node4 \"cat\"=1\n    Leaf \"alog\"=2\n  Leaf \"dog\"=3\n"
+
+-- its lines, where the texts of the numbers in them are known
+first-line : (four : List ℕ) → four ≡ codes "4" → Some ((codes "Node" ++ four) ++ codes " \"\"\n")
+    ≡ Some (codes "Node4 \"\"\n")
+first-line four e = rw e refl
+
+inner-line : (four one : List ℕ) → four ≡ codes "4" → one ≡ codes "1"
+    → Some (codes "  Node" ++ four ++ 32 ∷ 34 ∷ 99 ∷ 97 ∷ 116 ∷ 34 ∷ 61 ∷ (one ++ codes "\n"))
+    ≡ Some (codes "  Node4 \"cat\"=1\n")
+inner-line four one e f = rw (e, f) refl
+
+lower-line : (two : List ℕ) → two ≡ codes "2" → Some (codes "    Leaf \"alog\"=" ++ two ++ codes "\n")
+    ≡ Some (codes "    Leaf \"alog\"=2\n")
+lower-line two e = rw e refl
+
+last-line : (three : List ℕ) → three ≡ codes "3" → Some (codes "  Leaf \"dog\"=" ++ three ++ codes "\n")
+    ≡ Some (codes "  Leaf \"dog\"=3\n")
+last-line three e = rw e refl
+
+all-lines : (a b c d : Option (List ℕ)) → a ≡ Some (codes "Node4 \"\"\n") → b ≡ Some (codes "  Node4 \"cat\"=1\n")
+    → c ≡ Some (codes "    Leaf \"alog\"=2\n") → d ≡ Some (codes "  Leaf \"dog\"=3\n")
+    → a ++? b ++? c ++? d ++? Some [] ≡ Some three_words_outline
+all-lines a b c d e f g h = rw (e, f, g, h) refl
+
 outlined : listed_outline (λ v. Some (decimal v)) (tree_pairs (run_tree three_words None)) (nodes_after three_words)
-    ≡ Some (codes "Node4 \"\"\n  Node4 \"cat\"=1\n    Leaf \"alog\"=2\n  Leaf \"dog\"=3\n")
-outlined = refl
+    ≡ Some three_words_outline
+outlined = let digit = λ (n : ℕ) (l : 0 < n) (h : n < 2 ^ 64). decimal-digits_of n l h in
+    all-lines _ _ _ _ (first-line (decimal 4) (digit 4 (omega arith) (omega arith)))
+    (inner-line (decimal 4) (decimal 1) (digit 4 (omega arith) (omega arith)) (digit 1 (omega arith) (omega arith)))
+    (lower-line (decimal 2) (digit 2 (omega arith) (omega arith)))
+    (last-line (decimal 3) (digit 3 (omega arith) (omega arith)))
