@@ -5,3 +5,4 @@ mod parts;
 mod slices;
 mod texts;
 mod whole;
+mod wide_parts;
