@@ -24,6 +24,7 @@ mod edits;
 mod ends;
 mod equal;
 mod extend;
+mod try_walks;
 mod walks;
 
 use crate::stats::{TreeStats, TreeStatsTrait};

@@ -17,5 +17,6 @@ mod nearest;
 mod outline;
 mod prefixes;
 pub mod range;
+mod try_matches;
 mod try_views;
 mod views;

@@ -12,6 +12,7 @@ pub mod PartLemmas
 pub mod PathLemmas
 pub mod SegmentLemmas
 pub mod ShownCuts
+pub mod TriedMatchLemmas
 pub mod TriedViewLemmas
 pub mod WalkLemmas
 pub mod WalkVisits

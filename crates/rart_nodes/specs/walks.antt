@@ -12,6 +12,7 @@ pub mod WalkSteps
 pub mod PathParts
 pub mod KeyBuffers
 pub mod Tried
+pub mod TriedMatches
 pub mod TriedViews
 pub mod ViewSegments
 pub mod Viewed

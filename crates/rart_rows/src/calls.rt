@@ -12,6 +12,7 @@ pub mod routes;
 pub mod step;
 pub mod table_changes;
 pub mod tables;
+pub mod tried_routes;
 pub mod turns;
 pub mod updates;
 pub mod views;

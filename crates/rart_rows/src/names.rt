@@ -20,6 +20,7 @@ pub enum Call {
     Group(Group),
     Route(Route),
     Reach(Reach),
+    TriedRoutes(TriedRoutes),
     TableRead(TableRead),
     TableEdit(TableEdit),
     TableChange(TableChange),
@@ -168,6 +169,7 @@ pub enum Turns {
 pub enum Callback {
     PrefixMatchForEach,
     PrefixMatchForEachBytes,
+    TryPrefixMatchForEach,
     PrefixValuesForEach,
     PrefixValuesFold,
     TryPrefixValuesForEach,
@@ -208,6 +210,14 @@ pub enum Route {
     RemovePrefix,
     RouteWithPrefix,
     CoveringForEach,
+    BelowForEach,
+}
+
+/// Walks over routes that a callback can end.
+#[derive(Clone, Copy)]
+pub enum TriedRoutes {
+    CoveringForEach,
+    CoveringForEachBytes,
     BelowForEach,
 }
 

@@ -2,14 +2,14 @@
 
 use crate::names::{
     Both, Call, Callback, Count, Group, Insertion, Load, Look, Many, Pairs, Probe, Reach, Removal,
-    Route, TableChange, TableEdit, TableRead, Tables, Turns, Values, Views, Whole,
+    Route, TableChange, TableEdit, TableRead, Tables, TriedRoutes, Turns, Values, Views, Whole,
 };
 
 /// A name, its call, and a letter for each argument.
 pub type Entry = (&'static str, Call, &'static str);
 
 // Where two names are one call, the second is the word of the program `rart_script`.
-static NAMES: [Entry; 97] = [
+static NAMES: [Entry; 98] = [
     ("get", Call::Look(Look::Get), "k"),
     ("contains_key", Call::Look(Look::ContainsKey), "k"),
     (
@@ -219,6 +219,11 @@ static NAMES: [Entry; 97] = [
         "k",
     ),
     (
+        "try_prefix_match_for_each",
+        Call::Callback(Callback::TryPrefixMatchForEach),
+        "kc",
+    ),
+    (
         "try_prefix_values_for_each",
         Call::Callback(Callback::TryPrefixValuesForEach),
         "kc",
@@ -265,7 +270,7 @@ static NAMES: [Entry; 97] = [
     ("holds", Call::Group(Group::Holds), "bv"),
 ];
 
-static ROUTE_NAMES: [Entry; 35] = [
+static ROUTE_NAMES: [Entry; 38] = [
     ("add", Call::Route(Route::Add), "kv"),
     ("add_new", Call::Route(Route::AddNew), "kv"),
     ("replace", Call::Route(Route::Replace), "kv"),
@@ -302,6 +307,21 @@ static ROUTE_NAMES: [Entry; 35] = [
         "covering_for_each_bytes",
         Call::Reach(Reach::CoveringForEachBytes),
         "b",
+    ),
+    (
+        "try_covering_for_each",
+        Call::TriedRoutes(TriedRoutes::CoveringForEach),
+        "kc",
+    ),
+    (
+        "try_covering_for_each_bytes",
+        Call::TriedRoutes(TriedRoutes::CoveringForEachBytes),
+        "bc",
+    ),
+    (
+        "try_below_for_each",
+        Call::TriedRoutes(TriedRoutes::BelowForEach),
+        "kc",
     ),
     ("canonical", Call::TableRead(TableRead::Canonical), ""),
     ("len", Call::TableRead(TableRead::Len), ""),

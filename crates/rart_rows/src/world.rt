@@ -14,6 +14,7 @@ use crate::calls::routes::{call_route, reach};
 use crate::calls::step::{call_of, put_reply};
 use crate::calls::table_changes::change_table;
 use crate::calls::tables::{call_tables, edit_table, read_table};
+use crate::calls::tried_routes::try_routes;
 use crate::calls::turns::walk_by_turns;
 use crate::calls::views::view;
 use crate::form::Form;
@@ -119,6 +120,7 @@ fn call_routes<K: KeyTrait + Drop>(
     match asked.row.call {
         Call::Route(name) => call_route(table, key, name, args.value, form, answer),
         Call::Reach(name) => reach(table, args.probe.as_slice(), name, form, answer),
+        Call::TriedRoutes(name) => try_routes(table, asked, name, answer),
         Call::TableRead(name) => read_table(table, name, args.turns, answer),
         Call::TableEdit(name) => edit_table(alloc, table, name, items, answer),
         Call::TableChange(name) => change_table(table, name, args, form, answer),

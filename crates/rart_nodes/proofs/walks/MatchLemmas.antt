@@ -159,6 +159,15 @@ module _ {V : Type 0} where
       let few = few-tree_entered q root w in
       (omega (arith, none, h, k, count), omega (arith, none, h, k, few))
 
+  -- a way down that i visits have led to, with l nodes left of those that it may enter
+  pub few-entered : (q : List ℕ) (l : ℕ) (root : Option (Trie V)) (m n i e : ℕ) → IsCanonicalTree root
+      → m + l ≡ i + e → i + e ≡ n + tree_entered q root
+      → (m ≤ n + probe_count (keys_of (tree_pairs root)) q) × (m ≤ n + length q + 1)
+  few-entered q l root m n i e w h k =
+      let count = tree_entered-probe_count q root w in
+      let few = few-tree_entered q root w in
+      (omega (arith, h, k, count), omega (arith, h, k, few))
+
   pub entered-ahead : (q : List ℕ) (d : ℕ) (o root : Option (Trie V)) → d ≡ 0 → o ≡ root
       → entered_ahead q d o ≡ tree_entered q root
   entered-ahead q d o root e f = rw (e, f) refl

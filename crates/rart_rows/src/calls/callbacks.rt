@@ -122,6 +122,28 @@ fn try_values<K: KeyTrait + Drop>(
     }
 }
 
+fn try_matches<K: KeyTrait + Drop>(
+    tree: &Tree<K>,
+    asked: &Asked<'_, K>,
+    answer: &mut Answer,
+) -> Result<(), u64> {
+    let walk = asked.args().walk;
+    let mut call = 0_u64;
+    let mut show = |key: &[u8], value: &u64| {
+        call = call.wrapping_add(1);
+        answer.pair(key, *value);
+        control(walk, call)
+    };
+    match asked.form {
+        Form::Value => tree.try_prefix_match_for_each(asked.taken(), show),
+        Form::LentReference => tree.try_prefix_match_for_each_by_ref_k(&asked.key, &mut show),
+        Form::LentValue => tree.try_prefix_match_for_each_by_ref(asked.taken(), &mut show),
+        Form::Bytes => tree.try_prefix_match_for_each_bytes(asked.bytes(), show),
+        Form::LentBytes => tree.try_prefix_match_for_each_by_ref_bytes(asked.bytes(), &mut show),
+        Form::Reference | Form::Step => tree.try_prefix_match_for_each_k(&asked.key, show),
+    }
+}
+
 /// The end of what a callback showed, or why the walk failed.
 pub fn put_tried(tried: Result<(), VisitError<u64>>, answer: &mut Answer) {
     match tried {
@@ -149,6 +171,10 @@ pub fn call_back<K: KeyTrait + Drop>(
         Callback::PrefixMatchForEachBytes => {
             match_for_each_bytes(tree, asked.args().probe.as_slice(), asked.form, answer);
             answer.end();
+        }
+        Callback::TryPrefixMatchForEach => {
+            let tried = try_matches(tree, asked, answer);
+            put_tried(tried.map_err(VisitError::Callback), answer);
         }
         Callback::PrefixValuesForEach => {
             let walked = values_for_each(tree, asked, answer);

@@ -18,6 +18,8 @@ use rart_trie::node::strip_prefix;
 use rart_trie::{Count, Visits};
 use std::marker::{Model, PhantomData};
 
+mod tried;
+
 /// A descent along a probe.
 #[derive(Drop)]
 pub(crate) struct Matching<'a, P: Partial, V, C> {

@@ -1,0 +1,7 @@
+use Rattle.rart.proofs.routes.RouteTable.try_covering_for_each_by_ref.Goals as goal
+
+pub try_prefix_match_for_each_by_ref_k-requires : goal.try_prefix_match_for_each_by_ref_k-requires
+try_prefix_match_for_each_by_ref_k-requires g c = record { callable = rw c.self.view_is c.requires.callable }
+
+pub returns-clause-calls : goal.returns-clause-calls
+returns-clause-calls g c = rw (← c.self.view_is) c.try_prefix_match_for_each_by_ref_k.ensures.calls
