@@ -170,6 +170,7 @@ pub enum Callback {
     PrefixMatchForEach,
     PrefixMatchForEachBytes,
     TryPrefixMatchForEach,
+    TryPrefixMatchForEachBytes,
     PrefixValuesForEach,
     PrefixValuesFold,
     TryPrefixValuesForEach,

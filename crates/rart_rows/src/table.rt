@@ -9,7 +9,7 @@ use crate::names::{
 pub type Entry = (&'static str, Call, &'static str);
 
 // Where two names are one call, the second is the word of the program `rart_script`.
-static NAMES: [Entry; 98] = [
+static NAMES: [Entry; 99] = [
     ("get", Call::Look(Look::Get), "k"),
     ("contains_key", Call::Look(Look::ContainsKey), "k"),
     (
@@ -222,6 +222,11 @@ static NAMES: [Entry; 98] = [
         "try_prefix_match_for_each",
         Call::Callback(Callback::TryPrefixMatchForEach),
         "kc",
+    ),
+    (
+        "try_prefix_match_for_each_bytes",
+        Call::Callback(Callback::TryPrefixMatchForEachBytes),
+        "bc",
     ),
     (
         "try_prefix_values_for_each",

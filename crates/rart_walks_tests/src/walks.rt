@@ -5,6 +5,7 @@ mod bound_visits;
 mod capacity;
 mod copies;
 mod counted;
+mod ended_visits;
 pub mod forms;
 mod laws;
 mod requests;

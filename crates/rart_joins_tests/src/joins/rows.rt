@@ -75,9 +75,10 @@ pub const WORDS: [Pair; 3] = [("ab", 1), ("abc", 2), ("dog", 3)];
 
 pub const OTHER_WORDS: [Pair; 3] = [("abc", 20), ("dog", 30), ("zzz", 40)];
 
-pub static ROWS: [Row; 9] = [
+pub static ROWS: [Row; 10] = [
     (&[], &[], &[]),
     (&[], &WORDS, &[]),
+    (&WORDS, &[], &[]),
     (
         &BEGINNINGS,
         &[("", 10), ("a", 20), ("b", 30)],

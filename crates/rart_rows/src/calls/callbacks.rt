@@ -144,6 +144,25 @@ fn try_matches<K: KeyTrait + Drop>(
     }
 }
 
+fn try_matches_bytes<K: KeyTrait + Drop>(
+    tree: &Tree<K>,
+    asked: &Asked<'_, K>,
+    answer: &mut Answer,
+) -> Result<(), u64> {
+    let (probe, walk) = (asked.args().probe.as_slice(), asked.args().walk);
+    let mut call = 0_u64;
+    let mut show = |key: &[u8], value: &u64| {
+        call = call.wrapping_add(1);
+        answer.pair(key, *value);
+        control(walk, call)
+    };
+    if asked.form.lends() {
+        tree.try_prefix_match_for_each_by_ref_bytes(probe, &mut show)
+    } else {
+        tree.try_prefix_match_for_each_bytes(probe, show)
+    }
+}
+
 /// The end of what a callback showed, or why the walk failed.
 pub fn put_tried(tried: Result<(), VisitError<u64>>, answer: &mut Answer) {
     match tried {
@@ -174,6 +193,10 @@ pub fn call_back<K: KeyTrait + Drop>(
         }
         Callback::TryPrefixMatchForEach => {
             let tried = try_matches(tree, asked, answer);
+            put_tried(tried.map_err(VisitError::Callback), answer);
+        }
+        Callback::TryPrefixMatchForEachBytes => {
+            let tried = try_matches_bytes(tree, asked, answer);
             put_tried(tried.map_err(VisitError::Callback), answer);
         }
         Callback::PrefixValuesForEach => {
