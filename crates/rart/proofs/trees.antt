@@ -1,4 +1,5 @@
 pub mod AppendLemmas
+pub mod DifferenceLemmas
 pub mod EditLemmas
 pub mod EqualLemmas
 pub mod FieldLemmas
@@ -7,5 +8,8 @@ pub mod Lending
 pub mod LentAndShared
 pub mod LentAndSharedKeepingKey
 pub mod PresentLemmas
+pub mod UnionCallLemmas
+pub mod UnionLawLemmas
+pub mod UnionLemmas
 pub mod UpdateLemmas
 pub mod WalkSteps

@@ -14,4 +14,6 @@ pub mod Refusals
 pub mod RouteLoans
 pub mod Steps
 pub mod TreeFields
+pub mod UnionCalls
+pub mod Unions
 pub mod Updates

@@ -25,6 +25,7 @@ pub mod bulk_loads;
 pub mod counts;
 pub mod probes;
 pub mod routes;
+pub mod unions;
 
 /// Proves that trees with equal keys have equal nodes, whatever their key types, values and history.
 pub fn equal_keys_equal_nodes<K: KeyTrait, V, L: KeyTrait, W>(

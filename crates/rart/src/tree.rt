@@ -16,10 +16,12 @@ use rart_parts::TreeError;
 use std::alloc::Global;
 use std::marker::{Model, PhantomData};
 
+mod ahead;
 mod append;
 mod bulk;
 mod by_bytes;
 mod clones;
+pub mod difference;
 mod ends;
 mod equal;
 mod extend;
@@ -32,6 +34,7 @@ mod sets;
 mod stats;
 mod take_prefix;
 pub mod try_insert;
+pub mod union;
 pub mod update;
 mod values_mut;
 
