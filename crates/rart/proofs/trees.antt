@@ -7,6 +7,7 @@ pub mod HeldLemmas
 pub mod Lending
 pub mod LentAndShared
 pub mod LentAndSharedKeepingKey
+pub mod MergeLemmas
 pub mod PresentLemmas
 pub mod UnionCallLemmas
 pub mod UnionLawLemmas

@@ -9,6 +9,7 @@ pub mod Extensions
 pub mod LawAnswers
 pub mod Loans
 pub mod MapAndShape
+pub mod Merges
 pub mod Migrations
 pub mod Refusals
 pub mod RouteLoans

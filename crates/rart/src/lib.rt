@@ -2,10 +2,10 @@
 //!
 //! Contracts see a tree as its sorted pairs and the records of its nodes. After any list of calls the nodes are
 //! exactly the branch points of the keys, each of the kind that its child count fixes. Every answer is that of the
-//! sorted list of pairs. A call of the map that fails changes neither, with four exceptions. A failed removal of
+//! sorted list of pairs. A call of the map that fails changes neither, with five exceptions. A failed removal of
 //! `update*` keeps the value that the callback wrote. A failed `extend` keeps the items before the refused one. A
-//! failed `append` keeps the pairs moved before it. A failed `retain` keeps what it did before the failed removal. A
-//! law that makes several calls says which state remains if one of them fails.
+//! failed `append` or `merge_with` keeps the pairs moved before it. A failed `retain` keeps what it did before the
+//! failed removal. A law that makes several calls says which state remains if one of them fails.
 #![tactic(auto)]
 
 mod bulk;

@@ -29,6 +29,7 @@ mod get_mut;
 mod get_or_insert;
 mod intersect;
 pub mod into_pairs;
+mod merge;
 mod retain;
 mod sets;
 mod stats;

@@ -59,7 +59,7 @@ module _ {K V : Type 0} (bytes : K → List ℕ) where
   for-memory map key Memory few r = r
   for-memory map key Full few r = absurd (omega (arith, few, r.1))
 
-  put-back : (new rest left : List (List ℕ × V)) (key : K) (value : V) (error : TreeError) (held : Option (K × V))
+  pub put-back : (new rest left : List (List ℕ × V)) (key : K) (value : V) (error : TreeError) (held : Option (K × V))
       → AreAbove (bytes key) rest → length rest < MAX_PAIRS → MayRefuseInsert new (bytes key) error
       → PutsBack bytes key value rest held left → IsNotMoved bytes new (bytes key, value) rest error held left
   put-back new rest left key value error None above few r b = (b ∙ put-first (bytes key) value rest above, inr r)

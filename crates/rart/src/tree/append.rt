@@ -66,7 +66,7 @@ impl<K: KeyTrait + Drop, V: Drop> AdaptiveRadixTree<K, V> {
     }
 
     // Inserts a pair that was removed from `other`. If that fails, inserts it into `other` again.
-    fn put_pair(
+    pub(super) fn put_pair(
         &mut self,
         other: &mut Self,
         key: K,
