@@ -1,5 +1,5 @@
-//! Tests of intersections, `==` and route tables that no row can make: laws, counted calls, and values that are no
-//! numbers. The rows are in `tests/`.
+//! Tests of intersections, unions, merges, `==` and route tables that no row can make: laws, counted calls, drops, and
+//! values that are no numbers. The rows are in `tests/`.
 //!
 //! Nothing depends on this crate, and it is no part of the product.
 #![tactic(auto)]
@@ -10,3 +10,5 @@ mod equal;
 mod joins;
 #[cfg(test)]
 mod routes;
+#[cfg(test)]
+mod unions;

@@ -268,6 +268,23 @@ impl Answer {
         self.digits(right);
     }
 
+    /// A key of either tree, and its value in each.
+    pub fn pair_of_either(&mut self, key: &[u8], left: Option<u64>, right: Option<u64>) {
+        self.space();
+        self.key(key);
+        self.put(b"=");
+        self.digits_or_none(left);
+        self.put(b",");
+        self.digits_or_none(right);
+    }
+
+    fn digits_or_none(&mut self, value: Option<u64>) {
+        match value {
+            Some(value) => self.digits(value),
+            None => self.put(b"none"),
+        }
+    }
+
     pub fn error(&mut self, error: TreeError) {
         match error {
             TreeError::Memory => self.refusal(b"memory"),

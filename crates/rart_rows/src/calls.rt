@@ -14,5 +14,6 @@ pub mod table_changes;
 pub mod tables;
 pub mod tried_routes;
 pub mod turns;
+pub mod unions;
 pub mod updates;
 pub mod views;

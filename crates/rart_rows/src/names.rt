@@ -129,6 +129,10 @@ pub enum Both {
     IntersectWith,
     TryIntersectWith,
     IntersectLendingWith,
+    UnionWith,
+    UnionIter,
+    DifferenceIter,
+    MergeWith,
 }
 
 /// Loads of pairs that the row lists.

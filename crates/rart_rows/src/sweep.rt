@@ -30,7 +30,7 @@ fn left_by(row: &Row<'_>) -> Left {
     match row.call {
         Call::Insertion(Insertion::Update) if row.args.request.writes() => Left::Nodes,
         Call::Many(Many::Retain)
-        | Call::Both(Both::Append)
+        | Call::Both(Both::Append | Both::MergeWith)
         | Call::Load(Load::Extend)
         | Call::TableEdit(TableEdit::Extend)
         | Call::TableChange(TableChange::Retain)

@@ -9,7 +9,7 @@ use crate::names::{
 pub type Entry = (&'static str, Call, &'static str);
 
 // Where two names are one call, the second is the word of the program `rart_script`.
-static NAMES: [Entry; 99] = [
+static NAMES: [Entry; 103] = [
     ("get", Call::Look(Look::Get), "k"),
     ("contains_key", Call::Look(Look::ContainsKey), "k"),
     (
@@ -151,6 +151,10 @@ static NAMES: [Entry; 99] = [
         Call::Both(Both::IntersectLendingWith),
         "",
     ),
+    ("union_with", Call::Both(Both::UnionWith), ""),
+    ("union_iter", Call::Both(Both::UnionIter), ""),
+    ("difference_iter", Call::Both(Both::DifferenceIter), ""),
+    ("merge_with", Call::Both(Both::MergeWith), ""),
     ("bulk_load_sorted", Call::Load(Load::BulkLoadSorted), "i"),
     ("from_pairs", Call::Load(Load::FromPairs), "i"),
     ("extend", Call::Load(Load::Extend), "i"),

@@ -2,6 +2,7 @@
 
 use crate::answer::Answer;
 use crate::calls::callbacks::{control, put_tried};
+use crate::calls::unions::call_either;
 use crate::form::Form;
 use crate::names::Both;
 use crate::request::Walk;
@@ -164,6 +165,9 @@ pub fn call_both<K: KeyTrait + Drop>(
         Both::Swap => swap(tree, other, answer),
         Both::IsSubset => answer.truth(tree.is_subset(other)),
         Both::IsDisjoint => answer.truth(tree.is_disjoint(other)),
+        Both::UnionWith | Both::UnionIter | Both::DifferenceIter | Both::MergeWith => {
+            call_either(tree, other, both, form, answer)
+        }
         _ => intersect(tree, other, both, walk, form, answer),
     }
 }
