@@ -1,3 +1,4 @@
+pub mod BeginningLemmas
 pub mod BitLemmas
 pub mod CodeLemmas
 pub mod NetworkLemmas

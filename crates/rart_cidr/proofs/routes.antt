@@ -1,7 +1,9 @@
-pub mod CodeSetLemmas
+pub mod CodeKeyLemmas
+pub mod CodeMapLemmas
 pub mod EditLemmas
 pub mod LoanLemmas
 pub mod OneLemmas
+pub mod PackedLemmas
 pub mod RefusalLemmas
 pub mod RouteLemmas
 pub mod StrideLemmas

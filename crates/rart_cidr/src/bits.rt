@@ -2,7 +2,7 @@
 ghost use Rattle.std.specs.Prelude.{◌≡◌, ◌<◌, ◌≤◌, length};
 ghost use Rattle.rart_keys.specs.KeyBytes.{AreBytes};
 ghost use Rattle.rart_cidr.specs.Bits.{masked_octets, code, masked_byte};
-ghost use Rattle.rart_cidr.specs.Codes.{byte_of_code, length_of_code, next_code};
+ghost use Rattle.rart_cidr.specs.Codes.{byte_of_code, code_place, length_of_code, next_code};
 
 /// Returns the code of the first `bits` bits of `byte`: a one, followed by these bits.
 pub fn code_of(byte: u8, bits: usize) -> u8
@@ -91,6 +91,17 @@ pub fn code_byte(code: u8) -> u8
     } else {
         code % 128 * 2
     }
+}
+
+/// Returns how many codes come before `code` in the order of their bits.
+pub fn place_of(code: u8) -> usize
+    requires { 1 ≤ code }
+    ensures value { result ≡ code_place code }
+    ensures byte { code < 256 }
+{
+    // A zero is after the list that ends before it. A one is also after those with a zero in its place: as many as its
+    // value in the byte.
+    usize::from(code_byte(code)) + usize::from(code_len(code)) + 1 - code.count_ones() as usize
 }
 
 /// Returns `byte` with all but its first `bits` bits cleared.

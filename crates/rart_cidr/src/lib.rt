@@ -6,6 +6,7 @@
 mod bits;
 pub mod cidr;
 mod code_map;
+mod code_set;
 mod coded_network;
 pub mod network_table;
 mod stride;

@@ -5,14 +5,14 @@
 ghost use Rattle.std.specs.Prelude.{◌≡◌, ◌≢◌, ◌<◌, ◌≤◌, [], ◌∷◌, length, Some, None, option_map, IfOk, IfErr};
 ghost use Rattle.std.specs.Borrow.{sem};
 ghost use Rattle.std.specs.Option.{option_copied, option_copied_mut};
-ghost use Rattle.rart_keys.specs.SortedMap.{IsAscending, lookup, put};
-ghost use Rattle.rart.specs.Edits.{Inserts, Removes};
+ghost use Rattle.rart_keys.specs.SortedMap.{IsAscending, lookup, put, without};
+ghost use Rattle.rart.specs.Edits.{Inserts};
 ghost use Rattle.rart.specs.Refusals.{MayRefuseInsert};
 ghost use Rattle.rart_cidr.specs.Loans.{lends_target};
 ghost use Rattle.rart_cidr.specs.Routes.{IsCode, IsLongestIn, IsShortestIn};
 ghost use Rattle.rart_cidr.specs.Walks.{IsCodeLess, IsNextIn};
 
-use crate::bits::{code_after, code_len, code_of};
+use crate::bits::{code_after, code_len, code_of, place_of};
 use crate::code_map::CodeMap;
 use rart::{Refused, TreeError};
 use std::alloc::Global;
@@ -73,7 +73,10 @@ fn boxed_one<T: Drop>(alloc: Global, code: u8, target: T) -> Result<Box<CodeMap<
     ensures ok { IfOk result (λ map. map.value ≡ (code ∷ [], target) ∷ []) }
     ensures returned { IfErr result (λ back. back ≡ target) }
 {
-    match Box::new(alloc, CodeMap::new(alloc)) {
+    let Ok(map) = CodeMap::new(alloc) else {
+        return Err(target);
+    };
+    match Box::new(alloc, map) {
         Ok(mut map) => match map.insert(code, target) {
             Ok(_) => Ok(map),
             Err(_) => unreachable!(),
@@ -90,9 +93,8 @@ fn unboxed_one<T: Drop>(map: Box<CodeMap<T>>, code: u8) -> T
 {
     let mut map = map;
     match map.remove(code) {
-        Ok(Some(target)) => target,
-        Ok(None) => unreachable!(),
-        Err(_) => unreachable!(),
+        Some(target) => target,
+        None => unreachable!(),
     }
 }
 
@@ -130,16 +132,33 @@ fn boxed_two<T: Drop>(
     }
 }
 
-// Returns what `Stride::longest` does of a boxed map.
-fn longest_in<T>(map: &CodeMap<T>, byte: u8, most: usize) -> Option<(usize, &T)>
+// Returns what `Stride::shortest` does of a boxed map.
+fn shortest_in<T>(map: &CodeMap<T>, byte: u8, least: usize, most: usize) -> Option<(usize, &T)>
     requires { most < 8 }
-    ensures { IsLongestIn map.now byte most (option_map (λ p. (p.0, p.1.now)) result) }
+    ensures { IsShortestIn map.now byte least most (option_map (λ p. (p.0, p.1.now)) result) }
 {
-    let mut left = most + 1;
-    while left > 0 {
-        left -= 1;
-        if let Some(target) = map.get(code_of(byte, left)) {
-            return Some((left, target));
+    let mut bits = least;
+    while bits <= most {
+        if let Some(target) = map.get(code_of(byte, bits)) {
+            return Some((bits, target));
+        }
+        bits += 1;
+    }
+    None
+}
+
+// Returns what `Stride::next` does of a boxed map.
+fn next_in<T>(map: &CodeMap<T>, code: u8, last: u8) -> Option<(u8, &T)>
+    requires code { IsCode (code ∷ []) }
+    requires last { IsCode (last ∷ []) }
+    requires order { ¬ (IsCodeLess last code) }
+    ensures { IsNextIn map.now code last (option_map (λ p. (p.0, p.1.now)) result) }
+{
+    let mut at = code;
+    while at != last {
+        at = code_after(at);
+        if let Some(target) = map.get(at) {
+            return Some((at, target));
         }
     }
     None
@@ -236,25 +255,21 @@ impl<T> Stride<T> {
         }
     }
 
-    /// Removes the target at `code` and returns it.
-    ///
-    /// # Errors
-    ///
-    /// [`TreeError::Memory`] if a target is stored at `code`, its removal must allocate, and the allocation fails.
-    /// The stride is then unchanged.
-    pub fn remove(&mut self, code: u8) -> Result<Option<T>, TreeError>
+    /// Removes the target at `code` and returns it. Never allocates.
+    pub fn remove(&mut self, code: u8) -> Option<T>
     where
         T: Drop,
-        ensures { Removes (code ∷ []) self.old self.new result }
+        ensures value { result ≡ lookup (code ∷ []) self.old }
+        ensures removed { self.new ≡ without (code ∷ []) self.old }
     {
         match mem::replace(&mut self.targets, Targets::Empty) {
-            Targets::Empty => Ok(None),
+            Targets::Empty => None,
             Targets::One(stored, target) => {
                 if stored == code {
-                    return Ok(Some(target));
+                    return Some(target);
                 }
                 self.targets = Targets::One(stored, target);
-                Ok(None)
+                None
             }
             Targets::Many(mut map) => {
                 let removed = map.remove(code);
@@ -273,10 +288,7 @@ impl<T> Stride<T> {
         ensures { result ≡ lookup (code ∷ []) self }
     {
         let mut stride = self;
-        match stride.remove(code) {
-            Ok(target) => target,
-            Err(_) => unreachable!(),
-        }
+        stride.remove(code)
     }
 
     /// Returns the target of the longest beginning of `byte` that has one, among those of at most `most` bits, and its
@@ -295,7 +307,7 @@ impl<T> Stride<T> {
                     None
                 }
             }
-            Targets::Many(map) => longest_in(map, byte, most),
+            Targets::Many(map) => map.longest(byte, most),
         }
     }
 
@@ -305,14 +317,18 @@ impl<T> Stride<T> {
         requires { most < 8 }
         ensures { IsShortestIn self.now byte least most (option_map (λ p. (p.0, p.1.now)) result) }
     {
-        let mut bits = least;
-        while bits <= most {
-            if let Some(target) = self.get(code_of(byte, bits)) {
-                return Some((bits, target));
+        match &self.targets {
+            Targets::Empty => None,
+            Targets::One(stored, target) => {
+                let bits = usize::from(code_len(*stored));
+                if least <= bits && bits <= most && code_of(byte, bits) == *stored {
+                    Some((bits, target))
+                } else {
+                    None
+                }
             }
-            bits += 1;
+            Targets::Many(map) => shortest_in(map, byte, least, most),
         }
-        None
     }
 
     /// Returns the first target after `code`, by the order of the bits, at `last` or before it, and its code.
@@ -322,13 +338,19 @@ impl<T> Stride<T> {
         requires order { ¬ (IsCodeLess last code) }
         ensures { IsNextIn self.now code last (option_map (λ p. (p.0, p.1.now)) result) }
     {
-        let mut at = code;
-        while at != last {
-            at = code_after(at);
-            if let Some(target) = self.get(at) {
-                return Some((at, target));
+        match &self.targets {
+            Targets::Empty => None,
+            Targets::One(stored, target) => {
+                if *stored > 0
+                    && place_of(code) < place_of(*stored)
+                    && place_of(*stored) <= place_of(last)
+                {
+                    Some((*stored, target))
+                } else {
+                    None
+                }
             }
+            Targets::Many(map) => next_in(map, code, last),
         }
-        None
     }
 }

@@ -292,7 +292,7 @@ fn take_from<K: KeyTrait, T: Drop>(
     ensures { TakesFrom (K.bytes key.now) (code ∷ []) strides.old.pairs strides.new.pairs result }
 {
     match strides.get_mut_k(key) {
-        Some(stride) => stride.remove(code),
+        Some(stride) => Ok(stride.remove(code)),
         None => unreachable!(),
     }
 }

@@ -9,7 +9,7 @@ use Rattle.rart_keys.specs.ByteStrings.{IsLess}
 use Rattle.rart_keys.specs.SortedMap.{lookup}
 use Rattle.rart_keys.proofs.strings.ByteOrder.{compare, is_equal, is_greater, order}
 use Rattle.rart_cidr.specs.Bits.{after_one, byte_bits, code_bits}
-use Rattle.rart_cidr.specs.Codes.{next_code}
+use Rattle.rart_cidr.specs.Codes.{code_place, next_code, place, size}
 use Rattle.rart_cidr.specs.Routes.{IsCode}
 use Rattle.rart_cidr.specs.Walks.{IsCodeLess, IsNextIn}
 use Rattle.rart_cidr.proofs.networks.BitLemmas.{code-number, code-short, holds_at, holds_below, number_after}
@@ -21,18 +21,6 @@ pub agree_at : (f g : ℕ → ℕ) (low size c : ℕ) → holds_below (λ i. f (
 agree_at f g low size c t h l = let e : low + (c - low) ≡ c = omega (arith, h) in
     ap f (sym e) ∙ eqb-true _ _ (holds_at (λ i. f (low + i) == g (low + i)) size (c - low) t (omega (arith, h, l)))
     ∙ ap g e
-
--- one more than there are lists of at most n bits
-unfoldable pub size : ℕ → ℕ
-size zero = 2
-size (suc n) = 2 * size n
-
--- how many lists of at most n bits come before a list of bits
-unfoldable pub place : ℕ → List ℕ → ℕ
-place n [] = 0
-place zero (b ∷ l) = 0
-place (suc n) (zero ∷ l) = suc (place n l)
-place (suc n) (suc b ∷ l) = size n + place n l
 
 place-bound : (n : ℕ) (l : List ℕ) → length l ≤ n → place n l + 2 ≤ size n
 unfolding place size
@@ -69,19 +57,15 @@ after-bits [] f = tt
 after-bits (zero ∷ l) f = after-bits l f.1
 after-bits (suc b ∷ l) f = f.1
 
--- how many codes come before a code
-unfoldable pub code_place : ℕ → ℕ
-code_place c = place 7 (code_bits c)
-
 short : (c : ℕ) → IsCode (c ∷ []) → length (code_bits c) ≤ 7
 short c f = let s = code-short c f.1 in omega (arith, s)
 
-place_less : (c d : ℕ) → IsCode (c ∷ []) → IsCode (d ∷ []) → IsCodeLess c d → code_place c < code_place d
+pub place_less : (c d : ℕ) → IsCode (c ∷ []) → IsCode (d ∷ []) → IsCodeLess c d → code_place c < code_place d
 unfolding code_place
 place_less c d f g h = place-less 7 (code_bits c) (code_bits d) (after-bits (byte_bits c) (are-bits c))
     (after-bits (byte_bits d) (are-bits d)) (short c f) (short d g) h
 
-less_place : (c d : ℕ) → IsCode (c ∷ []) → IsCode (d ∷ []) → code_place c < code_place d → IsCodeLess c d
+pub less_place : (c d : ℕ) → IsCode (c ∷ []) → IsCode (d ∷ []) → code_place c < code_place d → IsCodeLess c d
 unfolding code_place
 less_place c d f g h = ⊎_elim
     (λ l. l)

@@ -1,6 +1,7 @@
 -- What a table ends as once the loan of a target is over.
 use Rattle.std.proofs.Common.{◌≡◌, ℕ, ◌*◌, ◌/◌, ◌%◌, ◌≤◌, length, take, arith, List, [], ◌∷◌, Option, Some, None}
-use Rattle.std.proofs.Common.{refl, sym, ap, ◌∙◌}
+use Rattle.std.proofs.Common.{refl, sym, ap, ◌∙◌, ◌<◌, ◌↔◌, IfSome, IsSome, get_or, slice_get}
+use Rattle.std.proofs.lemmas.Option.{slice_get_read}
 use Rattle.std.specs.Borrow.{MutBor}
 use Rattle.std.specs.Option.{option_copied_mut}
 use Rattle.std.specs.Prelude.{◌≢◌, OnSome, Ok, slice_index}
@@ -15,6 +16,16 @@ use Rattle.rart_cidr.proofs.routes.StrideLemmas.{set-put}
 pub on_some : {X : Type 0} {P Q : Type 0} (o : Option X) → (P → Q) → OnSome o P → OnSome o Q
 on_some None f h = tt
 on_some (Some x) f h = f h
+
+pub on_any : {X : Type 0} {P : Type 0} (o : Option X) → P → OnSome o P
+on_any None p = tt
+on_any (Some x) p = p
+
+-- an element was lent
+pub lent-item : {X : Type 0} (o : Option (MutBor X)) (xs : List X) (i n : ℕ) → n ≡ length xs → i < n
+    → (IsSome o ↔ (i < n)) → IfSome o (λ x. x.now ≡ get_or xs i x.now) → option_copied_mut o ≡ slice_get xs i
+lent-item None xs i n e h v f = let some = v.1 h in absurd (cc)
+lent-item (Some x) xs i n e h v f = sym (slice_get_read xs n i x.now e h f)
 
 -- what is stored was lent
 pub lent_some : {X : Type 0} {P : Type 0} (o : Option (MutBor X)) (l : Option X) → option_copied_mut o ≡ l → l ≢ None

@@ -3,12 +3,14 @@ use Rattle.std.proofs.Common.{◌≡◌, ℕ, zero, suc, ◌<◌, ◌≤◌, len
 use Rattle.rart_keys.specs.SortedMap.{lookup}
 use Rattle.rart_keys.proofs.strings.ByteOrder.{eq-no, eq-yes}
 use Rattle.rart_cidr.specs.Bits.{code}
-use Rattle.rart_cidr.specs.Codes.{length_of_code}
-use Rattle.rart_cidr.specs.Routes.{IsLongestIn}
+use Rattle.rart_cidr.specs.Codes.{code_place, length_of_code}
+use Rattle.rart_cidr.specs.Routes.{IsCode, IsLongestIn, IsShortestIn}
+use Rattle.rart_cidr.specs.Walks.{IsCodeLess, IsNextIn}
 use Rattle.rart_cidr.proofs.networks.BitLemmas.{code-is, holds_below}
+use Rattle.rart_cidr.proofs.networks.CodeLemmas.{less_place, not_after, place_less}
 
 -- how many bits the code of r bits encodes
-code-length : (x r : ℕ) → x < 256 → r < 8 → length_of_code (code x r) ≡ r
+pub code-length : (x r : ℕ) → x < 256 → r < 8 → length_of_code (code x r) ≡ r
 unfolding holds_below
 code-length x zero h l = ap length (sym (code-is x 0 h refl))
 code-length x (suc zero) h l = ap length (sym (code-is x 1 h refl))
@@ -45,3 +47,44 @@ module _ {T : Type 0} where
       (λ same. let len = code-length x r h (omega arith) in
       let equal : bits ≡ r = e ∙ ap length_of_code same ∙ len in
       n (rw equal within) (rw equal (sym same)))
+
+  -- and the shortest
+  pub one-shortest : (c x least most bits : ℕ) (t : T) → x < 256 → most < 8 → bits ≡ length_of_code c → least ≤ bits
+      → bits ≤ most → code x bits ≡ c → IsShortestIn ((c ∷ [], t) ∷ []) x least most (Some (bits, t))
+  one-shortest c x least most bits t h l e m n s = (
+    m,
+    n,
+    one-found c (code x bits) t (sym s),
+    λ r from under. one-absent c (code x r) t
+        (λ same. let len = code-length x r h (omega (arith, under, n, l)) in
+        let equal : length_of_code (code x r) ≡ length_of_code c = ap length_of_code (sym same) in
+        omega (arith, len, equal, e, under)),
+  )
+
+  pub one-no_shortest : (c x least most bits : ℕ) (t : T) → x < 256 → most < 8 → bits ≡ length_of_code c
+      → (least ≤ bits → bits ≤ most → code x bits ≡ c → ⊥) → IsShortestIn ((c ∷ [], t) ∷ []) x least most None
+  one-no_shortest c x least most bits t h l e n = λ r from within. one-absent c (code x r) t
+      (λ same. let len = code-length x r h (omega (arith, within, l)) in
+      let equal : bits ≡ r = e ∙ ap length_of_code same ∙ len in
+      n (rw equal from) (rw equal within) (rw equal (sym same)))
+
+  -- the next target after a code, up to a last one
+  pub one-next : (d c last : ℕ) (t : T) → IsCode (c ∷ []) → IsCode (last ∷ []) → IsCode (d ∷ [])
+      → code_place c < code_place d → code_place d ≤ code_place last
+      → IsNextIn ((d ∷ [], t) ∷ []) c last (Some (d, t))
+  one-next d c last t f g h l m = (
+    h,
+    less_place c d f h l,
+    λ after. let more = place_less last d g h after in omega (arith, more, m),
+    one-found d d t refl,
+    λ b i k j. one-absent d b t (λ e. let more = place_less b d i h j in omega (arith, more, ap code_place e)),
+  )
+
+  pub one-no_next : (d c last : ℕ) (t : T) → IsCode (c ∷ []) → IsCode (last ∷ [])
+      → (IsCode (d ∷ []) → code_place c < code_place d → code_place d ≤ code_place last → ⊥)
+      → IsNextIn ((d ∷ [], t) ∷ []) c last None
+  one-no_next d c last t f g n = λ b i k j. one-absent d b t (λ e.
+      let same = ap code_place e in
+      let after = place_less c b f i k in
+      let within = not_after last b g i j in
+      n (rw e i) (omega (arith, after, same)) (omega (arith, within, same)))

@@ -8,12 +8,10 @@ use Rattle.std.specs.declared.cmp.Ordering.TheVariants.{Less, Equal, Greater}
 use Rattle.rart_keys.specs.ByteStrings.{bytes_eq}
 use Rattle.rart_keys.specs.KeyBytes.{AreBytes, AreBytes-take}
 use Rattle.rart_keys.specs.SortedMap.{IsAscending, count_of, keys_of, lookup, put, without}
-use Rattle.rart_keys.proofs.strings.ByteOrder.{bytes_eq-differ}
 use Rattle.rart_keys.proofs.maps.SortedMaps.{ascending-put, ascending-without, equal_by_lookups, length-put}
 use Rattle.rart_keys.proofs.maps.SortedMaps.{lookup-above}
 use Rattle.rart_keys.proofs.maps.SortedMaps.{lookup-put_at, lookup-put_elsewhere, lookup-without_at}
 use Rattle.rart_keys.proofs.maps.SortedMaps.{lookup-without_elsewhere}
-use Rattle.rart_trie.specs.edits.RemoveAllocations.{remove_allocates}
 use Rattle.rart_cidr.specs.Bits.{code, network}
 use Rattle.rart_cidr.specs.Routes.{AreCodes, AreStrides, IsCode, coded_network, routes_of, set_stride, stride_at}
 use Rattle.rart_cidr.specs.Routes.{stride_or_empty, target_at, with_stride}
@@ -21,27 +19,11 @@ use Rattle.rart_cidr.proofs.networks.BitLemmas.{code-in_range, network-coded}
 use Rattle.rart_cidr.proofs.routes.RouteLemmas.{lookup-routes, put-some, routes-ascend, routes-put, routes-without}
 use Rattle.rart_cidr.proofs.routes.RouteLemmas.{same_or_not, with-ascends, with-here}
 
-no-and : (b : Bool) → (b && false) ≡ false
-no-and true = refl
-no-and false = refl
-
 not-empty : {A : Type 0} (s : List A) → s ≢ [] → 0 < length s
 not-empty [] n = absurd (n refl)
 not-empty (e ∷ s) n = omega arith
 
 module _ {T : Type 0} where
-  -- the removal of a stride's only target requests no memory
-  pub only-length : (c : ℕ) (s : List (List ℕ × T)) → lookup (c ∷ []) s ≢ None → length s ≡ 1
-      → remove_allocates (keys_of s) (c ∷ []) ≡ true → ⊥
-  only-length c [] n l h = omega (arith, l)
-  only-length c (e ∷ f ∷ s) n l h = omega (arith, l)
-  only-length c (e ∷ []) n l h = ⊎_elim
-      (λ m. let t : remove_allocates ((c ∷ []) ∷ []) (c ∷ []) ≡ true = ap (λ z. remove_allocates (z ∷ []) (c ∷ []))
-      (sym m) ∙ h in
-      let u : remove_allocates ((c ∷ []) ∷ []) (c ∷ []) ≡ false = no-and _ in cc)
-      (λ m. n (rw (bytes_eq-differ e.0 (c ∷ []) m) refl))
-      (same_or_not e.0 (c ∷ []))
-
   codes-put : (k : List ℕ) (t : T) (s : List (List ℕ × T)) → IsCode k → AreCodes s → AreCodes (put k t s)
   codes-put k t [] c a = (c, tt)
   codes-put k t (e ∷ s) c a = elim (slice_cmp nat_cmp k e.0)

@@ -1,47 +1,39 @@
-use Rattle.std.proofs.Common.{[], ◌∷◌, Some, arith, ap, subst, sym, ◌∙◌}
-use Rattle.rart_keys.specs.SortedMap.{lookup}
+use Rattle.std.proofs.Common.{◌≡◌, ◌<◌, ◌≤◌, [], ◌∷◌, None, Some, ap, arith, subst, sym, ◌∙◌}
+use Rattle.rart_cidr.specs.Codes.{code_place}
 use Rattle.rart_cidr.specs.Routes.{IsCode}
+use Rattle.rart_cidr.specs.Targets.{pairs_of}
 use Rattle.rart_cidr.specs.Walks.{IsNextIn}
-use Rattle.rart_cidr.proofs.networks.CodeLemmas.{HasNoneUpTo, code_place, follows, next_found, next_none, none_at_first}
-use Rattle.rart_cidr.proofs.networks.CodeLemmas.{none_at_next, not_after}
+use Rattle.rart_cidr.proofs.routes.OneLemmas.{one-next, one-no_next}
 use Rattle.rart_cidr.proofs.stride.Stride.next.Goals as goal
+use Rattle.rart_cidr.proofs.stride.Stride.next.Goals.{
+  else-stored-gt0-via-then-stored-gt0+then-place_of+else-place_of-2,
+}
+use Rattle.rart_cidr.proofs.stride.Stride.next.Goals.{else-stored-gt0-via-then-stored-gt0+else-place_of}
+use Rattle.rart_cidr.proofs.stride.Stride.next.Goals.{else-stored-gt0-via-else-stored-gt0}
 
-pub loop-at-init : goal.loop-at-init
-loop-at-init g c = (
-  c.requires.code,
-  omega arith,
-  not_after c.args.last c.args.code c.requires.last c.requires.code c.requires.order,
-  none_at_first c.args.self.now c.args.code,
-)
+pub returns-then-place_of-2 : goal.returns-then-place_of-2
+returns-then-place_of-2 g c =
+    let seen = sym (ap pairs_of c.in-One.is) ∙ c.self.view_is in
+    let from = c.place_of.ensures.value in let to = c.place_of-then-place_of-2.ensures.value in
+    let here = c.place_of-then-stored-gt0.ensures.value in let same = c.place_of-then-place_of.ensures.value in
+    let after = c.if-place_of.true in let within = c.if-place_of-2.true in
+    subst (λ s. IsNextIn s c.args.code c.args.last (Some (c.in-One.stored, c.in-One.target))) seen
+    (one-next c.in-One.stored c.args.code c.args.last c.in-One.target c.requires.code c.requires.last
+    (omega (arith, c.if-stored-gt0.true), c.place_of-then-stored-gt0.ensures.byte) (omega (arith, from, here, after)) (omega (arith, same, to, within)))
 
-pub returns-in-Some : goal.returns-in-Some
-returns-in-Some g c =
-    let e = c.code_after-at.ensures in let i = c.loop-at.invariant in
-    let k = follows c.loop-at.at c.args.last i.0 c.requires.last c.loop-at-test.true i.2 in
-    subst (λ z. IsNextIn c.args.self.now c.args.code c.args.last (Some (z, c.in-Some.target.now))) (sym e)
-    (next_found c.args.self.now c.args.code c.loop-at.at c.args.last c.in-Some.target.now c.requires.code i.0
-    c.requires.last i.1 i.3 k (ap (λ z. lookup (z ∷ []) c.args.self.now) (sym e) ∙ sym c.in-Some.ensures))
-
-pub loop-at-smaller : goal.loop-at-smaller
-loop-at-smaller g c =
-    let e = ap code_place c.code_after-at.ensures in let i = c.loop-at.invariant in
-    let k = follows c.loop-at.at c.args.last i.0 c.requires.last c.loop-at-test.true i.2 in
-    let step = k.place in let most = k.within in omega (arith, e, step, most)
-
-pub loop-at-preserved : goal.loop-at-preserved
-loop-at-preserved g c =
-    let e = c.code_after-at.ensures in let i = c.loop-at.invariant in let least = i.1 in
-    let k = follows c.loop-at.at c.args.last i.0 c.requires.last c.loop-at-test.true i.2 in
-    let step = k.place in let most = k.within in
-    let same = ap code_place e in (
-      subst (λ z. IsCode (z ∷ [])) (sym e) k.is_code,
-      omega (arith, least, same, step),
-      omega (arith, same, most),
-      subst (λ z. HasNoneUpTo c.args.self.now c.args.code z) (sym e)
-          (none_at_next c.args.self.now c.args.code c.loop-at.at i.0 i.3 k.is_code step
-          (ap (λ z. lookup (z ∷ []) c.args.self.now) (sym e) ∙ sym c.in_default.ensures)),
-    )
-
-pub returns : goal.returns
-returns g c = next_none c.args.self.now c.args.code c.args.last c.requires.code c.requires.last
-    (subst (λ z. HasNoneUpTo c.args.self.now c.args.code z) c.loop-at-test.false c.loop-at.invariant.3)
+pub returns-else-stored-gt0 : goal.returns-else-stored-gt0
+returns-else-stored-gt0 g c =
+    let seen = sym (ap pairs_of c.in-One.is) ∙ c.self.view_is in
+    subst (λ s. IsNextIn s c.args.code c.args.last None) seen
+    (one-no_next c.in-One.stored c.args.code c.args.last c.in-One.target c.requires.code c.requires.last
+    (elim c.else-stored-gt0.branch as (λ _. IsCode (c.in-One.stored ∷ [])
+    → code_place c.args.code < code_place c.in-One.stored → code_place c.in-One.stored ≤ code_place c.args.last → ⊥) [
+      | else-stored-gt0-via-then-stored-gt0+then-place_of+else-place_of-2 w ↦ λ i after within.
+          let to = w.place_of-then-place_of-2.ensures.value in let same = w.place_of-then-place_of.ensures.value in
+          let past = w.if-place_of-2.false in omega (arith, within, to, same, past)
+      | else-stored-gt0-via-then-stored-gt0+else-place_of w ↦ λ i after within.
+          let from = w.place_of.ensures.value in let here = w.place_of-then-stored-gt0.ensures.value in
+          let before = w.if-place_of.false in omega (arith, after, from, here, before)
+      | else-stored-gt0-via-else-stored-gt0 w ↦ λ i after within.
+          let none = w.if-stored-gt0.false in let some = i.0 in omega (arith, none, some)
+    ]))
