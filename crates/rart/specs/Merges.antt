@@ -31,10 +31,9 @@ module _ {F K V : Type 0} (call : Mut F (Bor K × (MutBor V × (V × Unit {0})))
   abbrev pub MergesPair : F × List (List ℕ × V) → List ℕ × V → F × List (List ℕ × V) → Type 0
   MergesPair p x q = MergesInto (lookup x.0 p.1) p x q
 
-  -- f may be called with the key and the value of x, if the key has the value v
+  -- f may be called with the key and the value of x, and a loan of what the key has, if it has a value
   abbrev pub TakesMerge : Option V → F → List ℕ × V → Type 0
-  TakesMerge None f x = Unit {0}
-  TakesMerge (Some v) f x = (key : Bor K) (lent : MutBor V) → bytes key.now ≡ x.0 → lent.now ≡ v
+  TakesMerge o f x = (key : Bor K) (lent : MutBor V) → bytes key.now ≡ x.0 → o ≡ Some lent.now
       → Takes call f (key, (lent, (x.1, tt)))
 
   -- f may be called wherever a pair of `other` is merged into the map, one after the other

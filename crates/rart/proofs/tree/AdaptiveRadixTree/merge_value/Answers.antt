@@ -3,6 +3,10 @@ use Rattle.std.specs.Option.{option_copied_mut}
 use Rattle.rart_keys.specs.SortedMap.{lookup}
 use Rattle.rart.proofs.tree.AdaptiveRadixTree.merge_value.Goals as goal
 
+pub f-requires : goal.f-requires
+f-requires g c = c.requires.callable c.args.key c.in-Some.stored refl
+    (sym c.get_mut_k.ensures.value ∙ ap option_copied_mut c.in-Some.is)
+
 pub returns : goal.returns
 returns g c =
     let was : lookup (g.K.KeyTrait.bytes c.args.key.now) c.args.self.now.pairs ≡ Some c.in-Some.stored.now
