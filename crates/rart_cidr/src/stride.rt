@@ -219,8 +219,8 @@ impl<T> Stride<T> {
     ///
     /// # Errors
     ///
-    /// [`TreeError::Full`] or [`TreeError::Memory`] if the code is new and the insertion into the map of targets, or
-    /// the allocation of this map, fails. The stride is then unchanged, and the error holds `target`.
+    /// [`TreeError::Memory`] if the code is new, the stride has one target or its map must grow, and the allocation
+    /// fails. The stride is then unchanged, and the error holds `target`.
     pub fn insert(&mut self, alloc: Global, code: u8, target: T) -> Result<Option<T>, Refused<T>>
     where
         T: Drop,

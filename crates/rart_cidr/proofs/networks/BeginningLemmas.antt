@@ -1,5 +1,5 @@
 -- The codes of the beginnings of a byte, as a mask of the codes below 64, and the longest of them in a set.
-use Rattle.std.proofs.Common.{◌≡◌, ℕ, zero, suc, ◌+◌, ◌*◌, ◌/◌, ◌%◌, ◌^◌, ◌<◌, ◌≤◌, ◌==◌, ◌||◌, ◌&&◌, ◌⊎◌, ⊎_elim, inl, inr}
+use Rattle.std.proofs.Common.{◌≡◌, ℕ, zero, suc, ◌+◌, ◌*◌, ◌/◌, ◌%◌, ◌^◌, ◌<◌, ◌≤◌, ◌==◌, ◌||◌, ◌&&◌, ⊎_elim}
 use Rattle.std.proofs.Common.{Bool, true, false, not, min, eqb, List, [], ◌∷◌, map, refl, sym, ap, ◌∙◌, arith, eqb-true}
 use Rattle.std.proofs.Common.{count_ones, length}
 use Rattle.std.proofs.Common.{Some, None, bit_and, w64}
@@ -21,7 +21,8 @@ use Rattle.rart_cidr.proofs.routes.OneLemmas.{code-length}
 -- ---- the mask
 -- c is the code of at most five of the five bits that i is
 abbrev begins_five : ℕ → ℕ → Bool
-begins_five i c = c == 1 || (c == 2 + i / 16 || (c == 4 + i / 8 || (c == 8 + i / 4 || (c == 16 + i / 2 || c == 32 + i))))
+begins_five i c =
+    c == 1 || (c == 2 + i / 16 || (c == 4 + i / 8 || (c == 8 + i / 4 || (c == 16 + i / 2 || c == 32 + i))))
 
 abbrev same : Bool → Bool → Bool
 same true b = b
@@ -121,7 +122,8 @@ shifted (suc (suc (suc (suc (suc k))))) h = absurd (omega (arith, h))
 pub many_bits : (most : ℕ) → 5 ≤ most → IsLimit most 64
 many_bits most h = record {
   within = omega arith;
-  keeps = λ r l m. let small : 2 ^ suc r ≤ 2 ^ 6 = pow_mono {i = suc r} {j = 6} (omega (arith, m)) in omega (arith, small);
+  keeps = λ r l m. let small : 2 ^ suc r ≤ 2 ^ 6 = pow_mono {i = suc r} {j = 6} (omega (arith, m)) in
+      omega (arith, small);
   cuts = λ r l m. omega (arith, l, h);
 }
 

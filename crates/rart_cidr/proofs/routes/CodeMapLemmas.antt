@@ -213,7 +213,8 @@ module _ {T : Type 0} where
             let most = rank-at_most (has_code new) c (255 - c) gone-here in
             let few = most.1 in
             let room : capacity_of (suc (length (remove targets (rank_of words c)))) ≤ capacity = rw less p.room in
-            let step = less-room (length (remove targets (rank_of words c))) (omega (arith, less, back, s, few, small)) in
+            let step = less-room (length (remove targets (rank_of words c)))
+            (omega (arith, less, back, s, few, small)) in
             record {
               count = omega (arith, less, back, s, here);
               least = p.least;

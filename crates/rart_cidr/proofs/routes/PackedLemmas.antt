@@ -217,7 +217,8 @@ module _ {T : Type 0} where
       → pairs_from has from count ts ≡ pairs_from new from count ts
   pairs-alike has new from zero ts e = refl
   pairs-alike has new from (suc count) ts e =
-      let first = pairs-alike has new (suc from) count (drop 1 ts) (λ k l h. e k (omega (arith, l)) (omega (arith, h))) in
+      let first = pairs-alike has new (suc from) count (drop 1 ts)
+      (λ k l h. e k (omega (arith, l)) (omega (arith, h))) in
       let rest = pairs-alike has new (suc from) count ts (λ k l h. e k (omega (arith, l)) (omega (arith, h))) in
       let here : has from ≡ new from = sym (e from (omega arith) (omega arith)) in
       (λ i. if here i then with_first_target from ts (first i) else rest i)

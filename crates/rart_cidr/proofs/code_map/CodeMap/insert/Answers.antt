@@ -1,5 +1,5 @@
-use Rattle.std.proofs.Common.{◌≡◌, ◌+◌, ◌<◌, ◌≤◌, ◌==◌, ◌||◌, true, false, Some, [], ◌∷◌, length, slice_get, insert, set}
-use Rattle.std.proofs.Common.{suc, vec_len, vec_capacity, ap, arith, subst, sym, ◌∙◌}
+use Rattle.std.proofs.Common.{◌≡◌, ◌+◌, ◌<◌, ◌≤◌, ◌==◌, ◌||◌, true, false, Some, [], ◌∷◌, length, slice_get, insert}
+use Rattle.std.proofs.Common.{set, suc, vec_len, vec_capacity, ap, arith, subst, sym, ◌∙◌}
 use Rattle.std.proofs.lemmas.Option.{slice_get_read}
 use Rattle.rart_keys.specs.SortedMap.{lookup, put}
 use Rattle.rart_parts.specs.declared.error.TreeError.TheVariants.{Memory}
@@ -7,8 +7,8 @@ use Rattle.rart_trie.specs.edits.InsertAllocations.{has_free_slot}
 use Rattle.rart_trie.specs.shapes.Shape.{capacity_of}
 use Rattle.rart.specs.Refusals.{MayRefuseInsert}
 use Rattle.rart_cidr.specs.CodeSets.{IsPacked, has_code, rank_of, targets_by_code}
-use Rattle.rart_cidr.proofs.routes.CodeMapLemmas.{absent-code, few-pairs, found-code, insert-packed, put-new, put-stored}
-use Rattle.rart_cidr.proofs.routes.CodeMapLemmas.{rank-below, rank-in, refuses-memory}
+use Rattle.rart_cidr.proofs.routes.CodeMapLemmas.{absent-code, few-pairs, found-code, insert-packed, put-new}
+use Rattle.rart_cidr.proofs.routes.CodeMapLemmas.{put-stored, rank-below, rank-in, refuses-memory}
 use Rattle.rart_cidr.proofs.code_map.CodeMap.insert.Goals as goal
 
 pub index_mut-requires : goal.index_mut-requires
@@ -40,7 +40,8 @@ returns-then-check g c =
           c.self.inside.targets.ok.0 within c.index_mut.ensures.value ∙ ap Some (sym c.replace.ensures.value)),
       λ e n. omega (arith, e, few, seen),
       (λ i. targets_by_code words (set targets (c.rank-at.ensures i) (c.replace.ensures.after i)))
-          ∙ put-stored words targets code small count c.args.target bit ∙ ap (put (code ∷ []) c.args.target) c.self.view_is,
+          ∙ put-stored words targets code small count c.args.target bit
+          ∙ ap (put (code ∷ []) c.args.target) c.self.view_is,
     )
 
 pub insert_at-requires : goal.insert_at-requires
@@ -98,7 +99,8 @@ returns-in-Ok g c =
 pub invariant_of-self-in-Err : goal.invariant_of-self-in-Err
 invariant_of-self-in-Err g c =
     let words = c.self.inside.codes.words in let after = c.insert_at.new.targets in
-    let least = c.self.invariant.least in let room = c.self.invariant.room in let grows = c.insert_at.ensures.capacity in
+    let least = c.self.invariant.least in let room = c.self.invariant.room in
+    let grows = c.insert_at.ensures.capacity in
     subst (λ s. IsPacked words s (vec_capacity after)) (sym c.in-Err.ensures.unchanged) (record {
       count = c.self.invariant.count;
       least = omega (arith, least, grows);

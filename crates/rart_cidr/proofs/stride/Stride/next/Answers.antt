@@ -19,7 +19,8 @@ returns-then-place_of-2 g c =
     let after = c.if-place_of.true in let within = c.if-place_of-2.true in
     subst (λ s. IsNextIn s c.args.code c.args.last (Some (c.in-One.stored, c.in-One.target))) seen
     (one-next c.in-One.stored c.args.code c.args.last c.in-One.target c.requires.code c.requires.last
-    (omega (arith, c.if-stored-gt0.true), c.place_of-then-stored-gt0.ensures.byte) (omega (arith, from, here, after)) (omega (arith, same, to, within)))
+    (omega (arith, c.if-stored-gt0.true), c.place_of-then-stored-gt0.ensures.byte) (omega (arith, from, here, after))
+    (omega (arith, same, to, within)))
 
 pub returns-else-stored-gt0 : goal.returns-else-stored-gt0
 returns-else-stored-gt0 g c =
