@@ -1,3 +1,4 @@
+pub mod DumpLemmas
 pub mod EndLemmas
 pub mod FoundLemmas
 pub mod PrintLemmas

@@ -43,6 +43,11 @@ abbrev pub removed_line : Result (Option (ArrayKey TARGET_SIZE)) TreeError → L
 removed_line (Ok old) = old_line old
 removed_line (Err error) = refusal_line error
 
+-- the line for a route that is loaded: none, unless the table refused it
+abbrev pub loaded_line : Result (Option (ArrayKey TARGET_SIZE)) (Refused (ArrayKey TARGET_SIZE)) → List ℕ
+loaded_line (Ok old) = []
+loaded_line (Err refused) = refusal_line refused.error
+
 -- a route as a word
 abbrev pub route_word : Net × ArrayKey TARGET_SIZE → List ℕ
 route_word (net, target) = net_text net ++ codes "=" ++ array_key_bytes target
@@ -66,28 +71,45 @@ abbrev pub IsLineOf : List ((ℕ × List ℕ) × ArrayKey TARGET_SIZE) → List 
 IsLineOf all line = (routes : List (Net × ArrayKey TARGET_SIZE)) × (routes_in routes ≡ all)
     × (line ≡ routes_line routes)
 
--- the line for these routes, or for a refusal
-abbrev pub IsLineOfWalk : List ((ℕ × List ℕ) × ArrayKey TARGET_SIZE) → (TreeError → Type 0) → List ℕ → Type 0
-IsLineOfWalk all MayFail line = IsLineOf all line
-    ⊎ ((error : TreeError) × MayFail error × (line ≡ refusal_line error))
+-- a route as a line that loads it
+abbrev pub dumped_line : Net × ArrayKey TARGET_SIZE → List ℕ
+dumped_line (net, target) = net_text net ++ codes " " ++ array_key_bytes target ++ 10 ∷ []
 
--- the command prints this line on the tables old, and leaves the tables new
+-- the lines that load these routes
+abbrev pub IsDumpOf : List ((ℕ × List ℕ) × ArrayKey TARGET_SIZE) → List ℕ → Type 0
+IsDumpOf all lines = (routes : List (Net × ArrayKey TARGET_SIZE)) × (routes_in routes ≡ all)
+    × (lines ≡ flat_map dumped_line routes)
+
+-- what is printed of a walk's routes, or the line for a refusal
+abbrev pub IsOfWalk : (List ℕ → Type 0) → (TreeError → Type 0) → List ℕ → Type 0
+IsOfWalk IsOfRoutes MayFail lines = IsOfRoutes lines
+    ⊎ ((error : TreeError) × MayFail error × (lines ≡ refusal_line error))
+
+-- the command prints this on the tables old, and leaves the tables new
 abbrev pub PrintsAnswer : Command → Tables → List ℕ → Tables → Type 0
 PrintsAnswer command.Nothing old line new = (line ≡ []) × (new ≡ old)
 PrintsAnswer (command.Add net target) old line new = (r : Result (Option (ArrayKey TARGET_SIZE))
     (Refused (ArrayKey TARGET_SIZE))) × Inserts net target old new r × (line ≡ inserted_line r)
+PrintsAnswer (command.Load net target) old line new = (r : Result (Option (ArrayKey TARGET_SIZE))
+    (Refused (ArrayKey TARGET_SIZE))) × Inserts net target old new r × (line ≡ loaded_line r)
 PrintsAnswer (command.Del net) old line new = (r : Result (Option (ArrayKey TARGET_SIZE)) TreeError)
     × Removes net old new r × (line ≡ removed_line r)
 PrintsAnswer (command.Get net) old line new = (line ≡ old_line (target_at net old)) × (new ≡ old)
 PrintsAnswer (command.Route addr) old line new = (route : Option (Net × ArrayKey TARGET_SIZE))
     × (option_map (λ r. (net_bits r.0, r.1)) route ≡ longest_route addr old) × (line ≡ found_line route) × (new ≡ old)
 PrintsAnswer (command.Covering addr) old line new = IsLineOf (all_matches addr old) line × (new ≡ old)
-PrintsAnswer (command.Within net) old line new = IsLineOfWalk (all_within net old) (MayLackMemoryAt net old) line
+PrintsAnswer (command.Within net) old line new = IsOfWalk (IsLineOf (all_within net old)) (MayLackMemoryAt net old) line
     × (new ≡ old)
-PrintsAnswer command.List old line new = IsLineOfWalk (all_routes old) (MayLackMemory (all_routes old)) line
+PrintsAnswer command.List old line new = IsOfWalk (IsLineOf (all_routes old)) (MayLackMemory (all_routes old)) line
+    × (new ≡ old)
+PrintsAnswer command.Dump old lines new = IsOfWalk (IsDumpOf (all_routes old)) (MayLackMemory (all_routes old)) lines
     × (new ≡ old)
 PrintsAnswer command.Len old line new = (line ≡ decimal (length old.v4 + length old.v6) ++ 10 ∷ []) × (new ≡ old)
 
 -- an output grew by the line for these routes
 abbrev pub PrintsRoutes : List ((ℕ × List ℕ) × ArrayKey TARGET_SIZE) → Option (List ℕ) → Option (List ℕ) → Type 0
 PrintsRoutes all old new = (line : List ℕ) × (IsLineOf all line × Appends old new line)
+
+-- an output grew by the lines that load these routes
+abbrev pub PrintsDump : List ((ℕ × List ℕ) × ArrayKey TARGET_SIZE) → Option (List ℕ) → Option (List ℕ) → Type 0
+PrintsDump all old new = (lines : List ℕ) × (IsDumpOf all lines × Appends old new lines)

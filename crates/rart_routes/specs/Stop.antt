@@ -1,9 +1,9 @@
--- What the program says and answers where a script ends before its last line.
+-- What the program says of a malformed line, and where a script ends before its last line.
 use Rattle.std.specs.Prelude.{ℕ, [], ◌∷◌, ◌++◌, List, Option, codes, decimal}
 use Rattle.std.specs.Io.KnownBytes.{Appends}
 use Rattle.rart_cidr.specs.Texts.{parse_error_text}
 use Rattle.rart_routes.specs.declared.stop.LineError.{LineError}
-use Rattle.rart_routes.specs.declared.stop.LineError.TheVariants.{Command, Network}
+use Rattle.rart_routes.specs.declared.stop.LineError.TheVariants.{Command, Network, Target}
 use Rattle.rart_routes.specs.declared.stop.Stop.{Stop}
 use Rattle.rart_routes.specs.declared.stop.Stop.TheVariants.{BadLine, CannotRead, CannotWrite}
 
@@ -17,6 +17,7 @@ status_of CannotWrite = 1
 abbrev pub error_text : LineError → List ℕ
 error_text Command = codes "bad command"
 error_text (Network error) = parse_error_text error
+error_text Target = codes "target too long"
 
 -- what is said, without the newline
 abbrev pub message_of : Stop → List ℕ

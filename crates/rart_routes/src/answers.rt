@@ -1,8 +1,9 @@
-//! The line that a command prints.
+//! What a command prints.
 ghost use Rattle.std.specs.Prelude.{OnOk, option_map};
 ghost use Rattle.std.specs.Io.KnownBytes.{Appends};
 ghost use Rattle.rart_keys.specs.ArrayKeyBytes.{array_key_bytes};
-ghost use Rattle.rart_routes.specs.Answers.{PrintsRoutes, found_line, none_line, refusal_line, route_word, target_line};
+ghost use Rattle.rart_routes.specs.Answers.{PrintsDump, PrintsRoutes, dumped_line, found_line, none_line};
+ghost use Rattle.rart_routes.specs.Answers.{refusal_line, route_word, target_line};
 ghost use Rattle.rart_routes.specs.Found.{found_left};
 
 use crate::found::Found;
@@ -107,4 +108,39 @@ fn write_route<W: Write>(output: &mut W, net: &Net, target: &Target) -> io::Resu
 {
     write!(output, "{net}=")?;
     output.write_all(target.as_slice())
+}
+
+/// Writes the routes as lines that load them: a network, a space and a target.
+///
+/// # Errors
+///
+/// The error of `output`, which then may hold a part of the lines.
+pub fn write_dump<W: Write>(output: &mut W, routes: Found<'_>) -> io::Result<()>
+    ensures { OnOk result
+        (PrintsDump (found_left routes.entry) (W.contents output.old) (W.contents output.new)) }
+{
+    let mut routes = routes;
+    dump_remaining(output, &mut routes)
+}
+
+// Writes the routes to come, as `write_dump` does. It borrows them, as `write_remaining` does.
+fn dump_remaining<W: Write>(output: &mut W, routes: &mut Found<'_>) -> io::Result<()>
+    ensures { OnOk result
+        (PrintsDump (found_left routes.old) (W.contents output.old) (W.contents output.new)) }
+{
+    for (net, target) in routes {
+        dump_route(output, &net, target)?;
+    }
+    Ok(())
+}
+
+/// Writes the line that loads one route.
+fn dump_route<W: Write>(output: &mut W, net: &Net, target: &Target) -> io::Result<()>
+    ensures { OnOk result
+        (Appends (W.contents output.old) (W.contents output.new)
+        (dumped_line (net.now, target.now))) }
+{
+    write!(output, "{net} ")?;
+    output.write_all(target.as_slice())?;
+    writeln!(output)
 }

@@ -2,7 +2,7 @@
 ghost use Rattle.std.specs.Prelude.{◌≡◌, [], ◌∷◌, MatchOption};
 ghost use Rattle.rart_lines.specs.Words.{words_of};
 ghost use Rattle.rart_routes.specs.Command.{IsCommand, IsCommandOf, IsNetAndTarget, IsNotOne, IsNotTwo, IsOnlyAddr};
-ghost use Rattle.rart_routes.specs.Command.{IsOnlyNet, verb_of};
+ghost use Rattle.rart_routes.specs.Command.{IsOnlyNet, IsRoute, verb_of};
 
 use crate::net::{Net, parse_net};
 use crate::stop::LineError;
@@ -11,7 +11,7 @@ use rart_cidr::ParseCidrError;
 use rart_lines::next_word;
 use std::net::IpAddr;
 
-/// The first word of a line.
+/// The name of a command.
 #[derive(Clone, Copy)]
 pub enum Verb {
     Add,
@@ -21,16 +21,19 @@ pub enum Verb {
     Covering,
     Within,
     List,
+    Dump,
     Len,
 }
 
 /// The command of a line.
 #[derive(Drop)]
 pub enum Command {
-    /// Does nothing: the line has no words.
+    /// Does nothing: the line has no words, or is a comment.
     Nothing,
-    /// Inserts a route.
+    /// Inserts a route, and prints the old target.
     Add(Net, Target),
+    /// Inserts a route, and prints nothing.
+    Load(Net, Target),
     /// Removes a route.
     Del(Net),
     /// Looks a route up.
@@ -43,6 +46,8 @@ pub enum Command {
     Within(Net),
     /// Finds all routes.
     List,
+    /// Finds all routes, and prints them as lines that load them.
+    Dump,
     /// Counts the routes.
     Len,
 }
@@ -55,12 +60,15 @@ pub enum Command {
 pub fn parse_command(line: &[u8]) -> Result<Command, LineError>
     ensures { IsCommand (words_of line.now) result }
 {
-    let Some((name, operands)) = next_word(line) else {
+    let Some((first, operands)) = next_word(line) else {
         return Ok(Command::Nothing);
     };
-    match parse_verb(name) {
+    if first.starts_with(b"#".as_slice()) {
+        return Ok(Command::Nothing);
+    }
+    match parse_verb(first) {
         Some(verb) => parse_operands(verb, operands),
-        None => Err(LineError::Command),
+        None => parse_route(line),
     }
 }
 
@@ -81,6 +89,8 @@ fn parse_verb(name: &[u8]) -> Option<Verb>
         Some(Verb::Within)
     } else if name == b"list".as_slice() {
         Some(Verb::List)
+    } else if name == b"dump".as_slice() {
+        Some(Verb::Dump)
     } else if name == b"len".as_slice() {
         Some(Verb::Len)
     } else {
@@ -121,6 +131,10 @@ fn parse_operands(verb: Verb, operands: &[u8]) -> Result<Command, LineError>
             None => Ok(Command::List),
             Some(_) => Err(LineError::Command),
         },
+        Verb::Dump => match next_word(operands) {
+            None => Ok(Command::Dump),
+            Some(_) => Err(LineError::Command),
+        },
         Verb::Len => match next_word(operands) {
             None => Ok(Command::Len),
             Some(_) => Err(LineError::Command),
@@ -128,19 +142,32 @@ fn parse_operands(verb: Verb, operands: &[u8]) -> Result<Command, LineError>
     }
 }
 
-// Returns the network and the target that are the two operands.
-fn net_and_target(operands: &[u8]) -> Result<(Net, Target), LineError>
-    ensures { IsNetAndTarget (words_of operands.now) result }
+// Returns the route that a line without a command's name writes.
+fn parse_route(line: &[u8]) -> Result<Command, LineError>
+    ensures { IsRoute (words_of line.now) result }
 {
-    let Some((net, target)) = two_words(operands) else {
+    match net_and_target(line) {
+        Ok((net, target)) => Ok(Command::Load(net, target)),
+        // A first word that is no address was meant as a command's name.
+        Err(LineError::Network(ParseCidrError::Address)) => Err(LineError::Command),
+        Err(error) => Err(error),
+    }
+}
+
+// Returns the network and the target that are the two words.
+fn net_and_target(words: &[u8]) -> Result<(Net, Target), LineError>
+    ensures { IsNetAndTarget (words_of words.now) result }
+{
+    let Some((net, target)) = two_words(words) else {
         return Err(LineError::Command);
     };
-    let Some(target) = parse_target(target) else {
-        return Err(LineError::Command);
+    let net = match parse_net(net) {
+        Ok(net) => net,
+        Err(error) => return Err(LineError::Network(error)),
     };
-    match parse_net(net) {
-        Ok(net) => Ok((net, target)),
-        Err(error) => Err(LineError::Network(error)),
+    match parse_target(target) {
+        Some(target) => Ok((net, target)),
+        None => Err(LineError::Target),
     }
 }
 
@@ -182,12 +209,12 @@ fn only_word(operands: &[u8]) -> Option<&[u8]>
     }
 }
 
-// Returns the words that are the two operands.
-fn two_words(operands: &[u8]) -> Option<(&[u8], &[u8])>
-    ensures { MatchOption result (IsNotTwo (words_of operands.now))
-        (λ p. words_of operands.now ≡ p.0.now ∷ p.1.now ∷ []) }
+// Returns the two words.
+fn two_words(words: &[u8]) -> Option<(&[u8], &[u8])>
+    ensures { MatchOption result (IsNotTwo (words_of words.now))
+        (λ p. words_of words.now ≡ p.0.now ∷ p.1.now ∷ []) }
 {
-    let (first, rest) = next_word(operands)?;
+    let (first, rest) = next_word(words)?;
     let second = only_word(rest)?;
     Some((first, second))
 }

@@ -1,13 +1,16 @@
 //! Scripts: texts with one command on each line.
 ghost use Rattle.std.specs.Prelude.{◌≡◌, ◌≢◌, ◌≤◌, ℕ, List, IfSome, IfErr, OnOk};
-ghost use Rattle.std.specs.Io.KnownBytes.{Appends};
+ghost use Rattle.std.specs.Io.KnownBytes.{Appends, Keeps};
 ghost use Rattle.rart_routes.specs.Answers.{PrintsAnswer};
-ghost use Rattle.rart_routes.specs.Script.{EndsAtBad, Prints, PrintsAll};
+ghost use Rattle.rart_routes.specs.Script.{Ends, MeetsBad, PrintsAll};
 ghost use Rattle.rart_routes.specs.Stop.{IsSaid};
 ghost use Rattle.rart_routes.specs.Tables.{no_routes};
 
-use crate::answers::{write_found, write_none, write_refusal, write_routes, write_target};
+use crate::answers::{
+    write_dump, write_found, write_none, write_refusal, write_routes, write_target,
+};
 use crate::command::{Command, parse_command};
+use crate::mode::Mode;
 use crate::stop::Stop;
 use crate::tables::Tables;
 use rart_lines::{Lines, read_all};
@@ -18,21 +21,25 @@ use std::io::{Read, Write};
 /// Reads all of `input`, runs it line by line, and returns the status for the process.
 pub fn run_lines<R: Read, W: Write, E: Write>(
     alloc: Global,
+    mode: Mode,
     input: &mut R,
     output: &mut W,
     errors: &mut E,
 ) -> u8
     ensures status { result ≤ 2 }
-    // With status 0 all lines were run, and their answers were printed.
+    // With status 0 all lines were run, their answers were printed, and nothing was said.
     ensures answers { result ≡ 0 → IfSome (R.remaining input.old)
-        (λ text. PrintsAll text (W.contents output.old) (W.contents output.new)) }
-    // With status 2 those before the malformed line were, and the message says what is wrong.
+        (λ text. PrintsAll text (W.contents output.old) (W.contents output.new)
+        × Keeps (E.contents errors.old) (E.contents errors.new)) }
+    // With status 2 a line is malformed. By the mode only the lines before it were run, or all others; the messages
+    // say what is wrong.
     ensures bad { result ≡ 2 → IfSome (R.remaining input.old)
-        (λ text. EndsAtBad text (W.contents output.old) (W.contents output.new)
+        (λ text. MeetsBad mode text (W.contents output.old) (W.contents output.new)
         (E.contents errors.old) (E.contents errors.new)) }
 {
-    match run(alloc, input, output) {
-        Ok(()) => 0,
+    match run(alloc, mode, input, output, errors) {
+        Ok(false) => 0,
+        Ok(true) => 2,
         Err(stop) => match say(stop, errors) {
             Ok(()) => stop.status(),
             // A message that is not written is a failed write too.
@@ -41,21 +48,29 @@ pub fn run_lines<R: Read, W: Write, E: Write>(
     }
 }
 
-/// Writes why a script ended.
+/// Writes a line that names the stop.
 fn say<E: Write>(stop: Stop, errors: &mut E) -> io::Result<()>
     ensures { OnOk result (IsSaid (E.contents errors.old) (E.contents errors.new) stop) }
 {
     writeln!(errors, "{stop}")
 }
 
-fn run<R: Read, W: Write>(alloc: Global, input: &mut R, output: &mut W) -> Result<(), Stop>
+/// Runs the lines of `input`, and returns whether it reported a malformed one.
+fn run<R: Read, W: Write, E: Write>(
+    alloc: Global,
+    mode: Mode,
+    input: &mut R,
+    output: &mut W,
+    errors: &mut E,
+) -> Result<bool, Stop>
     ensures { IfSome (R.remaining input.old)
-        (λ text. Prints text result (W.contents output.old) (W.contents output.new)) }
+        (λ text. Ends mode text result (W.contents output.old) (W.contents output.new)
+        (E.contents errors.old) (E.contents errors.new)) }
 {
     let Ok(text) = read_all(alloc, input) else {
         return Err(Stop::CannotRead);
     };
-    let ended = run_text(alloc, text.as_slice(), output);
+    let ended = run_text(alloc, mode, text.as_slice(), output, errors);
     // The answers are written out first, whatever is said after them.
     match output.flush() {
         Ok(()) => ended,
@@ -63,36 +78,68 @@ fn run<R: Read, W: Write>(alloc: Global, input: &mut R, output: &mut W) -> Resul
     }
 }
 
-/// Runs the lines of a text on empty tables, up to the first that is no command.
-fn run_text<W: Write>(alloc: Global, text: &[u8], output: &mut W) -> Result<(), Stop>
-    ensures answers { Prints text.now result (W.contents output.old) (W.contents output.new) }
+/// Runs the lines of a text on empty tables, up to the first that is no command, or all of them.
+fn run_text<W: Write, E: Write>(
+    alloc: Global,
+    mode: Mode,
+    text: &[u8],
+    output: &mut W,
+    errors: &mut E,
+) -> Result<bool, Stop>
+    ensures answers { Ends mode text.now result (W.contents output.old) (W.contents output.new)
+        (E.contents errors.old) (E.contents errors.new) }
     ensures has_read { IfErr result (λ stop. stop ≢ Stop.CannotRead) }
 {
     let mut tables = Tables::new(alloc);
-    run_on(&mut tables, text, output)
+    run_on(&mut tables, mode, text, output, errors)
 }
 
 // Runs the lines on the empty `tables`, as `run_text` does.
-fn run_on<W: Write>(tables: &mut Tables, text: &[u8], output: &mut W) -> Result<(), Stop>
+fn run_on<W: Write, E: Write>(
+    tables: &mut Tables,
+    mode: Mode,
+    text: &[u8],
+    output: &mut W,
+    errors: &mut E,
+) -> Result<bool, Stop>
     requires empty { tables.old ≡ no_routes }
-    ensures answers { Prints text.now result (W.contents output.old) (W.contents output.new) }
+    ensures answers { Ends mode text.now result (W.contents output.old) (W.contents output.new)
+        (E.contents errors.old) (E.contents errors.new) }
     ensures has_read { IfErr result (λ stop. stop ≢ Stop.CannotRead) }
 {
+    let mut has_bad = false;
     for (index, line) in Lines::new(text).enumerate() {
         let command = match parse_command(line) {
             Ok(command) => command,
             Err(error) => {
-                return Err(Stop::BadLine {
+                let bad = Stop::BadLine {
                     line: index + 1,
                     error,
-                });
+                };
+                if let Mode::EndAtBad = mode {
+                    return Err(bad);
+                }
+                let Ok(()) = report(bad, output, errors) else {
+                    return Err(Stop::CannotWrite);
+                };
+                has_bad = true;
+                continue;
             }
         };
         let Ok(()) = execute(tables, command, output) else {
             return Err(Stop::CannotWrite);
         };
     }
-    Ok(())
+    Ok(has_bad)
+}
+
+/// Writes out the answers, and then a line that names the stop.
+fn report<W: Write, E: Write>(stop: Stop, output: &mut W, errors: &mut E) -> io::Result<()>
+    ensures answers { Keeps (W.contents output.old) (W.contents output.new) }
+    ensures said { OnOk result (IsSaid (E.contents errors.old) (E.contents errors.new) stop) }
+{
+    output.flush()?;
+    say(stop, errors)
 }
 
 /// Runs one command, and writes the answer.
@@ -105,6 +152,10 @@ fn execute<W: Write>(tables: &mut Tables, command: Command, output: &mut W) -> i
         Command::Add(net, target) => match tables.insert(&net, target) {
             Ok(Some(old)) => write_target(output, &old),
             Ok(None) => write_none(output),
+            Err(refused) => write_refusal(output, refused.error),
+        },
+        Command::Load(net, target) => match tables.insert(&net, target) {
+            Ok(_) => Ok(()),
             Err(refused) => write_refusal(output, refused.error),
         },
         Command::Del(net) => match tables.remove(&net) {
@@ -124,6 +175,10 @@ fn execute<W: Write>(tables: &mut Tables, command: Command, output: &mut W) -> i
         },
         Command::List => match tables.iter() {
             Ok(routes) => write_routes(output, routes),
+            Err(error) => write_refusal(output, error),
+        },
+        Command::Dump => match tables.iter() {
+            Ok(routes) => write_dump(output, routes),
             Err(error) => write_refusal(output, error),
         },
         Command::Len => writeln!(output, "{}", tables.len()),

@@ -1,4 +1,4 @@
-//! Why a script ends before its last line.
+//! What is wrong with a line, and why a script ends before its last line.
 ghost use Rattle.std.specs.Prelude.{◌≡◌};
 ghost use Rattle.rart_routes.specs.Stop.{status_of};
 
@@ -12,6 +12,8 @@ pub enum LineError {
     Command,
     /// A word should write a network or an address, and doesn't.
     Network(ParseCidrError),
+    /// The word for a target has more bytes than a target may have.
+    Target,
 }
 
 /// Why a script ends before its last line.
@@ -47,6 +49,7 @@ impl fmt::Display for LineError {
         match self {
             LineError::Command => write!(f, "bad command"),
             LineError::Network(error) => write!(f, "{error}"),
+            LineError::Target => write!(f, "target too long"),
         }
     }
 }
