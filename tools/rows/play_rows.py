@@ -4,9 +4,10 @@
 usage: play_rows.py [PASSED FAILED]
 
 After the gate, crates/NAME/out/NAME is the program NAME as LLVM builds it, and NAME.by-rattle as Rattle's own compiler
-does. Each plays every row of the tables in script_rows or routes_rows: the status, standard output and standard error
-must be exactly those of the row. Then come runs whose input is slow, fails or is a terminal's, whose output or errors
-take so many bytes and then fail, or whose output and errors are one pipe. Linux is needed: the failures are its own.
+does. Each plays every row of the tables in script_rows or routes_rows, with the arguments of the row: the status,
+standard output and standard error must be exactly those of the row. Then come runs whose input is slow, fails or is a
+terminal's, whose output or errors take so many bytes and then fail, or whose output and errors are one pipe. Linux is
+needed: the failures are its own.
 
 PASSED and FAILED are the counts of the step before. The last line adds to them one for each table and each run of a
 build; a row that fails is named.
@@ -41,12 +42,12 @@ BUILDS = (("LLVM", ""), ("Rattle", ".by-rattle"))
 SECONDS = 600
 
 
-def run(program, script, **how):
+def run(program, script, arguments=(), **how):
     """The status, what was printed and what was said."""
     how = {"stdout": subprocess.PIPE, "stderr": subprocess.PIPE, "env": {}, **how}
     if "stdin" not in how:
         how["input"] = script
-    ended = subprocess.run([program], timeout=SECONDS, **how)
+    ended = subprocess.run([program, *arguments], timeout=SECONDS, **how)
     return ended.returncode, ended.stdout, ended.stderr
 
 
@@ -98,9 +99,9 @@ def run_unbuffered(program, script, stream, limit, library):
     return status, taken, said if b" refused=1 " in report else b"no request was refused"
 
 
-def run_in_one(program, script):
+def run_in_one(program, script, **how):
     """A run whose output and errors are one pipe."""
-    return run(program, script, stderr=subprocess.STDOUT)
+    return run(program, script, stderr=subprocess.STDOUT, **how)
 
 
 def row_of(status, printed, said):
@@ -118,8 +119,8 @@ def why_not(play, program, script, wanted):
 
 
 def in_order(row):
-    """The script of a row, and then its status, output and message, as runs return them."""
-    script, printed, said, status = row
+    """The script of a row, and then its status, output and message, as runs return them. Arguments may follow them."""
+    script, printed, said, status, *_ = row
     return script, (status, printed, said)
 
 
@@ -156,17 +157,42 @@ def runs(name, rows, library):
     )
 
 
+def going_runs(name, option):
+    """The same with an option that lets the program go past malformed lines."""
+    cannot_write = f"{name}: cannot write\n".encode()
+    script, message = b"len\nfoo\nlen\n", b"line 2: bad command\n"
+    going = {"arguments": (option,)}
+    return (
+        ("past a malformed line, in order", partial(run_in_one, **going), script, (2, b"0\n" + message + b"0\n", None)),
+        (
+            "past a malformed line, a failed write ends the run",
+            partial(run_limited, stream="stdout", limit=2, **going),
+            script,
+            (1, b"0\n", message + cannot_write),
+        ),
+        # The third line is not run.
+        (
+            "past a malformed line, a message that is not written is a failed write",
+            partial(run_limited, stream="stderr", limit=3, **going),
+            script,
+            (1, b"0\n", b"lin"),
+        ),
+    )
+
+
 def outcomes(name, rows, program, library):
     """Each table and each run: its name, how many rows it has, and why rows failed."""
     for table, of_table in rows.TABLES.items():
         failed = []
         for at, row in enumerate(of_table):
             script, wanted = in_order(row)
-            why = why_not(run, program, script, wanted)
+            arguments = row[4:]
+            why = why_not(partial(run, arguments=arguments), program, script, wanted)
             if why:
-                failed.append(f"row {at}, {script!r}: {why}")
+                failed.append(f"row {at}, {script!r}{f' with {arguments}' if arguments else ''}: {why}")
         yield f"{table}, {len(of_table)} rows", failed
-    for run_name, play, script, wanted in runs(name, rows, library):
+    option = getattr(rows, "KEEP_GOING", None)
+    for run_name, play, script, wanted in runs(name, rows, library) + (going_runs(name, option) if option else ()):
         why = why_not(play, program, script, wanted)
         yield run_name, [why] if why else []
 

@@ -1,9 +1,35 @@
-"""The rows of `rart_routes`: a script, what it prints, what it says on standard error, and its status."""
+"""The rows of `rart_routes`: a script, its output, what it says on standard error, its status, and its arguments."""
 
 COMMAND = b"line 1: bad command\n"
 ADDRESS = b"line 1: bad address\n"
 LENGTH = b"line 1: bad length\n"
 HOST_BITS = b"line 1: host bits set\n"
+TARGET = b"line 1: target too long\n"
+
+KEEP_GOING = b"--keep-going"
+
+# A table as text: comments, empty lines and routes, in any order.
+TABLE = b"""# core
+10.0.0.0/8 core
+2001:db8::/32 v6	
+
+10.1.0.0/16 lab  # and a line that is malformed
+ #10.0.0.0/8 no
+10.1.0.0/16 lab
+0.0.0.0/0 -
+10.1.2.3 printer
+::1 #
+10.1.0.0/16 lab2
+"""
+
+# The same as `dump` writes it.
+DUMPED = b"""0.0.0.0/0 -
+10.0.0.0/8 core
+10.1.0.0/16 lab2
+10.1.2.3/32 printer
+::1/128 #
+2001:db8::/32 v6
+"""
 
 ROWS = (
     # README's commands.
@@ -102,6 +128,17 @@ ROWS = (
         b"",
         0,
     ),
+    # A comment prints nothing, whatever it holds.
+    (b"#\n# len\n#len\n \t#\nlen\n##", b"0\n", b"", 0),
+    # A network and a target are a route, which prints nothing, new or not.
+    (b"10.0.0.0/8 a\n10.0.0.0/8 b\n::1 c\nlist\nadd ::1 d\n", b"10.0.0.0/8=b ::1/128=c\nsome c\n", b"", 0),
+    (b"10.0.0.0/8 list\n10.0.0.1 #\nget 10.0.0.0/8\nget 10.0.0.1", b"some list\nsome #\n", b"", 0),
+    # All as lines that are routes, IPv4 before IPv6; nothing of empty tables.
+    (b"dump\n", b"", b"", 0),
+    (b"add ::1 b\nadd 10.0.0.1 a\ndump\ndel 10.0.0.1\ndump", b"none\nnone\n10.0.0.1/32 a\n::1/128 b\nsome a\n"
+        b"::1/128 b\n", b"", 0),
+    # So a dump is an input, which leaves the same tables.
+    (DUMPED + b"dump\nlen\n", DUMPED + b"6\n", b"", 0),
     # A malformed line ends the run.
     (b"len\n\nfoo\nlen", b"0\n", b"line 3: bad command\n", 2),
     (b"add 10.0.0.0/8 a\nroute 10.0.0.0/8\nlen\n", b"none\n", b"line 2: bad address\n", 2),
@@ -127,10 +164,23 @@ BAD = (
     (b"within", COMMAND),
     (b"within ::1 ::2", COMMAND),
     (b"list 1", COMMAND),
+    (b"dump 1", COMMAND),
     (b"len 1", COMMAND),
-    # A target of 33 bytes, said before anything of the network.
-    (b"add ::/1 0123456789abcdef0123456789abcdef0", COMMAND),
-    (b"add x 0123456789abcdef0123456789abcdef0", COMMAND),
+    # A network without a target, and with two.
+    (b"::/1", COMMAND),
+    (b"::/1 a b", COMMAND),
+    # A first word that is no address is no network, but the wrong name of a command.
+    (b"foo bar", COMMAND),
+    (b"10.0.0/8 a", COMMAND),
+    (b"gett 2001:0db8:0000:0000:0000:0000:0000:0001", COMMAND),
+    (b"; a", COMMAND),
+    # A target of 33 bytes, said after anything of the network.
+    (b"add ::/1 0123456789abcdef0123456789abcdef0", TARGET),
+    (b"::/1 0123456789abcdef0123456789abcdef0", TARGET),
+    (b"add x 0123456789abcdef0123456789abcdef0", ADDRESS),
+    (b"10.0.0.0/33 0123456789abcdef0123456789abcdef0", LENGTH),
+    # The same counts that a command's are are counted first.
+    (b"add x 0123456789abcdef0123456789abcdef0 y", COMMAND),
     # No address.
     (b"add x a", ADDRESS),
     (b"get 10.0.0/8", ADDRESS),
@@ -152,9 +202,53 @@ BAD = (
     (b"get ::1/127", HOST_BITS),
     (b"del 128.0.0.0/0", HOST_BITS),
     (b"within 10.0.0.1/8", HOST_BITS),
+    (b"10.0.0.0/33 a", LENGTH),
+    (b"10.0.0.1/8 a", HOST_BITS),
 )
 
-TABLES = {"ROWS": ROWS, "BAD": tuple((line, b"", said, 2) for line, said in BAD)}
+# What is run with `--keep-going`.
+GOING = (
+    (TABLE + b"dump\n", DUMPED, b"line 5: bad command\n", 2),
+    # Each malformed line is reported, and prints nothing; the others are run.
+    (
+        b"len\nfoo\n\n10.0.0.1/8 a\n::1 a\nroute x\nadd ::2 " + 33 * b"a" + b"\nlist\nget ::/129",
+        b"0\n::1/128=a\n",
+        b"line 2: bad command\nline 4: host bits set\nline 6: bad address\nline 7: target too long\n"
+        b"line 9: bad length\n",
+        2,
+    ),
+    (b"foo", b"", b"line 1: bad command\n", 2),
+    (b"foo\nlen\n", b"0\n", b"line 1: bad command\n", 2),
+    (20 * b"foo\n", b"", b"".join(b"line %d: bad command\n" % line for line in range(1, 21)), 2),
+)
+
+# Arguments that it doesn't take: nothing is read.
+REFUSED = (
+    (b"--help",),
+    (b"--keep-goin",),
+    (b"--keep-goingx",),
+    (b"--keep-going=1",),
+    (b"--keep-going-and-more-than-there-is-room-for",),
+    (b"",),
+    (b"-",),
+    (b"\xff",),
+    (KEEP_GOING, b"len"),
+    (b"len", KEEP_GOING),
+)
+
+ARGUMENT = b"rart_routes: bad argument: the only one is --keep-going\n"
+
+BAD_ROWS = tuple((line, b"", said, 2) for line, said in BAD)
+
+TABLES = {
+    "ROWS": ROWS,
+    "BAD": BAD_ROWS,
+    # A run without a malformed line is the same, and so is one whose only line is malformed.
+    "ROWS, keep going": tuple((*row, KEEP_GOING) for row in ROWS if row[3] == 0),
+    "BAD, keep going": tuple((*row, KEEP_GOING) for row in BAD_ROWS),
+    "GOING": tuple((*row, KEEP_GOING) for row in GOING) + ((*GOING[0], KEEP_GOING, KEEP_GOING),),
+    "REFUSED": tuple((b"len\n", b"", ARGUMENT, 2, *arguments) for arguments in REFUSED),
+}
 
 # Answers, and then a malformed line.
 SHARED = (b"get ::/1\nlen\nfoo\nlen\n", b"none\n0\n", b"line 3: bad command\n", 2)
