@@ -39,7 +39,8 @@ ROWS = [
 ]
 
 NO_FOLDER = "cannot make a folder in /nowhere; TMPDIR names another\n"
-PROGRAMS = "[rart_script | rart_routes]    commands on standard input; GUIDE.md lists them\n"
+PROGRAMS = "[rart_script | rart_routes [--keep-going]]    commands on standard input; GUIDE.md lists them\n"
+ONLY_ARGUMENT = "the only argument of rart_routes is --keep-going\n"
 GATE = "usage: ./test    the gate: proofs, edits, tests and programs; docs/STATUS.md has its time\n"
 BEGINS = "test: begins; docs/STATUS.md says how long it takes\n"
 
@@ -52,6 +53,10 @@ OTHER_ROWS = [
     ("./run rart", 2, "", "run: no program rart: rart_script or rart_routes\n"),
     ("./try rart_script len", 2, "", "try: one program at most: rart_script or rart_routes\n"),
     ("./run rart_script len", 2, "", "run: one program at most: rart_script or rart_routes\n"),
+    ("./try rart_routes len", 2, "", f"try: {ONLY_ARGUMENT}"),
+    ("./run rart_routes --keep-going len", 2, "", f"run: {ONLY_ARGUMENT}"),
+    ("printf 'foo\\nlen\\n' | ./try rart_routes --keep-going", 2, "0\n", f"{UNPROVED}line 1: bad command\n"),
+    ("printf 'foo\\nlen\\n' | ./run rart_routes --keep-going", 2, "0\n", "line 1: bad command\n"),
     (f"{BARE} ./test all", 2, "", GATE),
     (f"{BARE} ./test ''", 2, "", GATE),
     ("./try --help", 0, f"usage: ./try {PROGRAMS}", ""),
