@@ -68,10 +68,13 @@ fn first_wrong(pairs: &mut UnionIter<'_, Key, u64, Name>) -> usize {
 fn gives_either(numbers: &Tree, names: &Names) -> bool {
     let mut at = 0_usize;
     let mut is_right = true;
-    let walked = numbers.union_with(names, |key: Key, number: Option<&u64>, name: Option<&Name>| {
-        is_right = is_right && is_wanted(at, &key, number.copied(), name.copied());
-        at = at.wrapping_add(1);
-    });
+    let walked = numbers.union_with(
+        names,
+        |key: Key, number: Option<&u64>, name: Option<&Name>| {
+            is_right = is_right && is_wanted(at, &key, number.copied(), name.copied());
+            at = at.wrapping_add(1);
+        },
+    );
     walked == Ok(()) && is_right && at == WANTED.len()
 }
 

@@ -12,7 +12,10 @@ type Tree<'a> = AdaptiveRadixTree<ArrayKey<4>, Counted<'a>>;
 fn filled<'a>(alloc: Global, drops: &'a Cell<usize>, count: u8) -> Tree<'a> {
     let mut tree = Tree::new(alloc);
     for byte in 0..count {
-        let _old = tree.insert(ArrayKey::new_from_slice(&[b'n', byte]), Counted(byte, drops));
+        let _old = tree.insert(
+            ArrayKey::new_from_slice(&[b'n', byte]),
+            Counted(byte, drops),
+        );
     }
     tree
 }
