@@ -18,8 +18,8 @@ impl Drop for Digit<'_> {
     }
 }
 
-// Adds children with the digits 1, 2 and 3 at the bytes 9, 0 and 255. No function does so: the checker states no loan of
-// a map to one that is generic in the map, where a child has a lifetime.
+// Adds children with the digits 1, 2 and 3 at the bytes 9, 0 and 255. No function does so: the checker states no loan
+// of a map to one that is generic in the map, where a child has a lifetime.
 macro_rules! fill {
     ($map:expr, $number:expr) => {
         $map.add_child(9, Digit(1, $number));
