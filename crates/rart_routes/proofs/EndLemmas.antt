@@ -22,7 +22,7 @@ use Rattle.rart_routes.specs.declared.stop.LineError.{LineError}
 use Rattle.rart_routes.specs.declared.stop.Stop.TheVariants.{BadLine}
 use Rattle.rart_routes.specs.declared.tables.Tables.{Tables}
 
--- an output that stays as it was grew by nothing
+-- an unchanged output grew by nothing
 pub Appends-kept : (a b : Option (List ℕ)) → Keeps a b → Appends a b []
 Appends-kept None b h = tt
 Appends-kept (Some xs) None h = absurd h
