@@ -50,8 +50,8 @@ class Body(typing.NamedTuple):
     hidden: tuple = ()
 
 
-LOOK_UP = ("rart_nodes", "src/node/walks/look_up.rt", "self.descend(key, counter)")
-LENDING = ("rart_nodes", "src/node/walks/lending.rt", "for_each_view_of(&mut walk, &mut path, counter, f);")
+LOOK_UP = ("rart_nodes", "src/node/calls/look_up.rt", "self.descend(key, counter)")
+LENDING = ("rart_nodes", "src/node/calls/lending.rt", "for_each_view_of(&mut walk, &mut path, counter, f);")
 VISITOR = ("rart_nodes", "src/node/intersect/visitor.rt", "f(left, right);")
 SHRINK = ("rart_trie", "src/node/storage/shrink.rt")
 GROW = ("rart_trie", "src/node/storage/grow.rt")

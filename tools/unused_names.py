@@ -3,8 +3,9 @@
 
 usage: unused_names.py [--check]
 
-A name that only its own declaration uses counts as unused. Answers to goals, examples and words of specs/ are not
-listed: the checker reads the first, and people the others. The last line has both numbers. With --check the status is
+A name that only its own declaration uses counts as unused. A record or a type that a `pub` lemma returns needs its
+`pub`, as other files read its fields. Answers to goals, examples and words of specs/ are not listed: the checker reads
+the first, and people the others. The last line has both numbers. With --check the status is
 1 unless both are 0.
 """
 import pathlib
@@ -36,7 +37,7 @@ def is_read_by_the_checker(path, text):
 
 
 def declarations(text):
-    """Yields each declared name with whether it is `pub`, and the lines of its declaration, each by its index."""
+    """Yields each declared name with the words before it, and the lines of its declaration, each by its index."""
     lines = text.splitlines()
     record = None
     for at, line in enumerate(lines):
@@ -51,7 +52,7 @@ def declarations(text):
             record = depth
         elif f"{match[3]} :" not in line:
             continue
-        yield match[3], "pub" in kinds, set(own_lines(lines, at, depth, match[3]))
+        yield match[3], kinds, set(own_lines(lines, at, depth, match[3]))
 
 
 def depth_of(line):
@@ -94,6 +95,16 @@ def names_used_elsewhere(texts):
     return used
 
 
+def is_returned(name, kinds, declared, lines):
+    """Returns whether a `pub` lemma names this record or type."""
+    if not {"record", "abbrev", "data"} & set(kinds):
+        return False
+    for other, other_kinds, own in declared:
+        if other != name and "pub" in other_kinds and any(name in TOKEN.findall(lines[at]) for at in own):
+            return True
+    return False
+
+
 def main(arguments):
     if arguments not in ([], ["--check"]):
         print(__doc__.split("\n\n")[1], file=sys.stderr)
@@ -105,7 +116,8 @@ def main(arguments):
         if "proofs" not in path.parts or is_read_by_the_checker(path, text):
             continue
         lines = text.splitlines()
-        for name, is_pub, own in declarations(text):
+        declared = list(declarations(text))
+        for name, kinds, own in declared:
             others = (line for at, line in enumerate(lines) if at not in own and "use Rattle" not in line)
             here = any(name in TOKEN.findall(line) for line in others)
             place = f"{path.relative_to(TOP)}: {name}"
@@ -113,7 +125,7 @@ def main(arguments):
                 continue
             if not here:
                 unused.append(place)
-            elif is_pub:
+            elif "pub" in kinds and not is_returned(name, kinds, declared, lines):
                 needless.append(place)
     for place in unused:
         print(f"unused: {place}")

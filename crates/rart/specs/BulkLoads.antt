@@ -2,13 +2,17 @@
 use Rattle.std.specs.Prelude.{◌≡◌, ◌≢◌, ◌+◌, ◌-◌, ◌^◌, ◌<◌, ◌≤◌, min, ℕ, List, [], ◌∷◌, ◌++◌, length, Option, None}
 use Rattle.std.specs.Prelude.{Some, Result, IfErr, OnOk, slice_index_or}
 use Rattle.std.specs.Iterator.{Yields, Drains, HoldsAlong}
-use Rattle.rart_keys.specs.BulkLists.{WasRead, first_fault, last_wins}
+use Rattle.rart_keys.specs.BulkLists.{WasRead, first_fault, last_wins, put_all}
 use Rattle.rart_keys.specs.SortedMap.{IsAscending, keys_of, values_of}
 use Rattle.rart_trie.specs.build.ValueCalls.{Takes}
 use Rattle.rart.specs.Steps.{pairs_in}
 use Rattle.rart.specs.declared.bulk.BulkError.{BulkError}
 use Rattle.rart.specs.declared.bulk.BulkError.TheVariants.{Memory, Full, Unsorted}
 use Rattle.rart.specs.declared.tree.TheConstants.{MAX_PAIRS}
+use Rattle.rart_parts.specs.declared.error.TreeError.{TreeError}
+use Rattle.rart.specs.Refusals.{MayLackStats, MayRefuseInsert}
+use Rattle.rart.specs.declared.laws.bulk_loads.RefusedStep.{RefusedStep}
+use Rattle.rart.specs.declared.laws.bulk_loads.RefusedStep.TheVariants.{Load, Insertion, Stats}
 
 module _ {U S A : Type 0} (becomes : U → S → Type 0) (steps : S → Option A → S → Type 0) where
   -- P holds of some items that were read from the front
@@ -76,3 +80,22 @@ abbrev pub TakesBeginning : {F V : Type 0} → (F → ℕ → V → F → Type 0
 TakesBeginning {F} {V} step len f g Memory = (taken : List V) × (length taken ≤ len) × Takes step 0 f taken g
 TakesBeginning step len f g Full = g ≡ f
 TakesBeginning step len f g (Unsorted at) = ⊥
+
+-- what the law of bulk loads answers, where one of its calls was refused
+module _ {V : Type 0} where
+  -- the load of these pairs, which ascend strictly, may be refused so
+  abbrev pub MayRefuseLoad : List (List ℕ × V) → BulkError → Type 0
+  MayRefuseLoad pairs Memory = pairs ≢ []
+  MayRefuseLoad pairs Full = MAX_PAIRS < length pairs
+  MayRefuseLoad pairs (Unsorted at) = ⊥
+
+  -- the insertion of one of these pairs, after those before it, may be refused so
+  abbrev pub MayRefuseOneOf : List (List ℕ × V) → TreeError → Type 0
+  MayRefuseOneOf pairs error = (before : List (List ℕ × V)) × (pair : List ℕ × V) × (after : List (List ℕ × V))
+      × (pairs ≡ before ++ pair ∷ after) × MayRefuseInsert (put_all before []) pair.0 error
+
+  -- the call that was refused, for a reason that the pairs allow
+  abbrev pub RefusesStep : List (List ℕ × V) → List (List ℕ × V) → RefusedStep → Type 0
+  RefusesStep sorted shuffled (Load error) = MayRefuseLoad sorted error
+  RefusesStep sorted shuffled (Insertion error) = MayRefuseOneOf shuffled error
+  RefusesStep sorted shuffled (Stats error) = MayLackStats (keys_of sorted) error

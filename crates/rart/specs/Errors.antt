@@ -1,6 +1,6 @@
 -- Which error of the crate each error of a call becomes.
-use Rattle.rart_nodes.specs.declared.node.walks.control.VisitError.{VisitError}
-use Rattle.rart_nodes.specs.declared.node.walks.control.VisitError.TheVariants as visit
+use Rattle.rart_nodes.specs.declared.node.control.VisitError.{VisitError}
+use Rattle.rart_nodes.specs.declared.node.control.VisitError.TheVariants as visit
 use Rattle.rart_trie.specs.declared.refused.NotInserted.{NotInserted}
 use Rattle.rart_trie.specs.declared.refused.NotInserted.TheVariants as not_inserted
 use Rattle.rart_trie.specs.declared.slot.UpdateError.{UpdateError}

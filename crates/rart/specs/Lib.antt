@@ -1,6 +1,5 @@
 pub mod Appends
 pub mod BothEnds
-pub mod BulkLaw
 pub mod BulkLoads
 pub mod Clones
 pub mod Edits
@@ -14,7 +13,6 @@ pub mod Migrations
 pub mod Refusals
 pub mod RouteLoans
 pub mod Steps
-pub mod TreeFields
 pub mod UnionCalls
 pub mod Unions
 pub mod Updates

@@ -24,10 +24,10 @@ pub use crate::migrate::MigrateError;
 pub use crate::routes::RouteTable;
 pub use crate::stats::{NodeStats, TreeStats, TreeStatsTrait};
 pub use crate::tree::AdaptiveRadixTree;
-pub use crate::tree::difference::DifferenceIter;
 pub use crate::tree::into_pairs::IntoPairs;
 pub use crate::tree::try_insert::TryInsertError;
-pub use crate::tree::union::UnionIter;
+pub use crate::tree::two_trees::difference::DifferenceIter;
+pub use crate::tree::two_trees::union::UnionIter;
 pub use crate::tree::update::TryUpdateError;
 pub use crate::walks::both_ends::{BothEnds, BothEndsWithin, ValuesBothEnds};
 pub use crate::walks::descending::{

@@ -16,26 +16,19 @@ use rart_parts::TreeError;
 use std::alloc::Global;
 use std::marker::{Model, PhantomData};
 
-mod ahead;
-mod append;
 mod bulk;
 mod by_bytes;
 mod clones;
-pub mod difference;
 mod ends;
-mod equal;
 mod extend;
 mod get_mut;
 mod get_or_insert;
-mod intersect;
 pub mod into_pairs;
-mod merge;
 mod retain;
-mod sets;
 mod stats;
 mod take_prefix;
 pub mod try_insert;
-pub mod union;
+pub mod two_trees;
 pub mod update;
 mod values_mut;
 
@@ -75,8 +68,7 @@ impl<K: KeyTrait, V: Drop> Drop for AdaptiveRadixTree<K, V> {
 
 impl<K: KeyTrait, V> Model for AdaptiveRadixTree<K, V> {
     ghost use Rattle.rart_trie.specs.tries.Tree.{tree_nodes, tree_pairs};
-    ghost use Rattle.rart.specs.MapAndShape.{MapAndShape};
-    ghost use Rattle.rart.specs.TreeFields.{AreTreeFields};
+    ghost use Rattle.rart.specs.MapAndShape.{AreTreeFields, MapAndShape};
 
     ghost Value = { MapAndShape V };
 

@@ -11,7 +11,7 @@ abbrev nonempty : List (List ℕ) → List (List ℕ)
 nonempty parts = filter is_nonempty parts
 
 -- xs cut at its first separator: the other parts' words are those of what begins there
-pub record IsCut (xs : List ℕ) (parts : List (List ℕ)) : Type 0 where
+record IsCut (xs : List ℕ) (parts : List (List ℕ)) : Type 0 where
   pub first : slice_split is_separator xs ≡ take (word_len xs) xs ∷ parts
   pub others : nonempty parts ≡ words_of (drop (word_len xs) xs)
 

@@ -1,8 +1,8 @@
-pub mod BackVisits
 pub mod BoundDescents
 pub mod BoundSteps
 pub mod ComparedEntries
 pub mod CountedBounds
+pub mod DescendingVisits
 pub mod DownLemmas
 pub mod EndPaths
 pub mod LevelLemmas

@@ -1,4 +1,4 @@
-pub mod BackWalk
+pub mod DescendingWalk
 pub mod Nearest
 pub mod Potential
 pub mod Spans

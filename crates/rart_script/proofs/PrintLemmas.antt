@@ -21,18 +21,18 @@ first_pair pair (next ∷ pairs) = ap (λ l. pair_word pair ++ 32 ∷ l) (first_
     ∙ sym (append_assoc (pair_word pair) (32 ∷ join_with_byte 32 (map pair_word (next ∷ pairs))) (10 ∷ []))
 
 -- the first pair is printed
-pub pairs-begin : (a b : Option (List ℕ)) (key bytes : List ℕ) (value : ℕ) (all rest left : List (List ℕ × ℕ))
+pub pairs-begin : {a b : Option (List ℕ)} {key bytes : List ℕ} {value : ℕ} {all rest left : List (List ℕ × ℕ)}
     → all ≡ (bytes, value) ∷ rest → left ≡ rest → key ≡ bytes → Appends a b (pair_word (key, value))
     → HasPrinted a b (further_pairs left) (pairs_line all)
-pairs-begin a b key bytes value all rest left is from here h =
+pairs-begin {a} {b} {key} {value} {all} {rest} is from here h =
     let whole : all ≡ (key, value) ∷ rest = is ∙ ap (λ k. (k, value) ∷ rest) (sym here) in
     rw (whole, from) (print-begins a b (pair_word (key, value)) (further_pairs rest) _ h (first_pair (key, value) rest))
 
 -- a space and the next pair are printed
-pub pairs-next : (a b c d : Option (List ℕ)) (key bytes : List ℕ) (value : ℕ) (left rest : List (List ℕ × ℕ))
-    (whole : List ℕ) → left ≡ (bytes, value) ∷ rest → key ≡ bytes → HasPrinted a b (further_pairs left) whole
+pub pairs-next : {a b c d : Option (List ℕ)} {key bytes : List ℕ} {value : ℕ} {left rest : List (List ℕ × ℕ)}
+    {whole : List ℕ} → left ≡ (bytes, value) ∷ rest → key ≡ bytes → HasPrinted a b (further_pairs left) whole
     → Appends b c (32 ∷ []) → Appends c d (pair_word (key, value)) → HasPrinted a d (further_pairs rest) whole
-pairs-next a b c d key bytes value left rest whole is here h space more =
+pairs-next {a} {b} {c} {d} {key} {value} {rest} {whole} is here h space more =
     let before : HasPrinted a b (32 ∷ pair_word (key, value) ++ further_pairs rest) whole
     = subst (λ l. HasPrinted a b (further_pairs l) whole) (is ∙ ap (λ k. (k, value) ∷ rest) (sym here)) h in
     print-continues a c d (pair_word (key, value)) (further_pairs rest) whole

@@ -29,11 +29,7 @@ static OF_ALP: [Row; 9] = [
 ];
 
 // Walks over the values below a prefix that can end early, and those that can't.
-static ENDING: [Walk; 3] = [
-    Walk::TryValuesSeen,
-    Walk::TryValuesCounted,
-    Walk::TryValuesLentCounted,
-];
+static ENDING: [Walk; 2] = [Walk::TryValuesCounted, Walk::TryValuesLentCounted];
 
 static WHOLE: [Walk; 4] = [
     Walk::ValuesCounted,

@@ -7,8 +7,7 @@ use Rattle.std.proofs.lemmas.Iterator.Adapters.{YieldsList-from_vec}
 use Rattle.std.proofs.lemmas.List.{append_assoc, map-append, map-id}
 use Rattle.rart_keys.specs.BulkLists.{first_fault, last_wins, put_all}
 use Rattle.rart_keys.specs.SortedMap.{IsAscending}
-use Rattle.rart.specs.BulkLaw.{MayRefuseLoad, MayRefuseOneOf}
-use Rattle.rart.specs.BulkLoads.{FailsSorted}
+use Rattle.rart.specs.BulkLoads.{FailsSorted, MayRefuseLoad, MayRefuseOneOf}
 use Rattle.rart.specs.Refusals.{MayRefuseInsert}
 use Rattle.rart.specs.Steps.{pairs_in}
 use Rattle.rart.specs.declared.bulk.BulkError.{BulkError}

@@ -24,10 +24,10 @@ module _ {A B : Type 0} where
       → length all ≤ capacity → length copied + length rest ≤ capacity
   capacity-begins copied rest all capacity none whole reserved = omega (arith, ap length none, ap length whole)
 
-  pub capacity-stays : (before after : List A) (x : A) (rest next : List B) (e : B) (capacity same : ℕ)
+  pub capacity-stays : (before : List A) (x : A) {after : List A} {rest next : List B} {e : B} {capacity same : ℕ}
       → after ≡ before ++ x ∷ [] → rest ≡ e ∷ next → same ≡ capacity → length before + length rest ≤ capacity
       → length after + length next ≤ same
-  capacity-stays before after x rest next e capacity same pushed steps kept fits
+  capacity-stays before x pushed steps kept fits
       = omega (arith, ap length pushed, length-append before (x ∷ []), ap length steps)
 
   pub capacity-for-next : (copied : List A) (rest next : List B) (e : B) (len capacity : ℕ) → len ≡ length copied

@@ -57,11 +57,11 @@ module _ {V : Type 0} where
   some-read bytes es ks k some e = omega (arith, some, ap length e, texts-count bytes es ks k)
 
 -- one more text is read
-pub texts-more : {K V : Type 0} (bytes : K → List ℕ) (before after : List K) (text : K) (key : List ℕ) (value : V)
-    (rest next : List (List ℕ × V)) (all : List (List ℕ)) → after ≡ before ++ text ∷ [] → rest ≡ (key, value) ∷ next
+pub texts-more : {K V : Type 0} (bytes : K → List ℕ) (before : List K) (text : K) {after : List K} {key : List ℕ} {value : V}
+    {rest next : List (List ℕ × V)} {all : List (List ℕ)} → after ≡ before ++ text ∷ [] → rest ≡ (key, value) ∷ next
     → key ≡ terminated_key (bytes text) → all ≡ map terminated_key (map bytes before) ++ keys_of rest
     → all ≡ map terminated_key (map bytes after) ++ keys_of next
-texts-more bytes before after text key value rest next all pushed steps closes read
+texts-more bytes before text {after} {key} pushed steps closes read
     = let more : map terminated_key (map bytes after) ≡ map terminated_key (map bytes before) ++ key ∷ []
     = ap (λ z. map terminated_key (map bytes z)) pushed ∙ ap (map terminated_key) (map-append bytes before (text ∷ []))
     ∙ map-append terminated_key (map bytes before) (bytes text ∷ [])

@@ -21,12 +21,12 @@ pub run-begins : {K V : Type 0} (sure : V → Type 0) (bytes : K → List ℕ) (
 run-begins sure bytes map calls replies ahead e f = rw (e, f)
     (record { continues_by = λ later last h. h; many = omega arith })
 
-pub run-continues : {K V : Type 0} (sure : V → Type 0) (bytes : K → List ℕ) (map : List (List ℕ × V))
-    (calls : List (Call K V)) (replies more : List (Reply K V)) (now next : List (List ℕ × V)) (call : Call K V)
-    (reply : Reply K V) (ahead rest : List (Call K V))
-    → ahead ≡ call ∷ rest → more ≡ replies ++ reply ∷ [] → HasRun sure bytes map calls replies now ahead
+pub run-continues : {K V : Type 0} (reply : Reply K V) {sure : V → Type 0} {bytes : K → List ℕ} {map : List (List ℕ × V)}
+    {calls : List (Call K V)} {replies more : List (Reply K V)} {now next : List (List ℕ × V)} {call : Call K V}
+    {ahead rest : List (Call K V)} → ahead ≡ call ∷ rest → more ≡ replies ++ reply ∷ []
+    → HasRun sure bytes map calls replies now ahead
     → IsStep sure bytes now call reply next → HasRun sure bytes map calls more next rest
-run-continues {K} {V} sure bytes map calls replies more now next call reply ahead rest e f run step =
+run-continues reply {sure} {bytes} {map} {calls} {replies} {now} {next} {call} {rest} e f run step =
     let had : HasRun sure bytes map calls replies now (call ∷ rest) = rw e at run in
     rw f (record {
       continues_by = λ later last h. subst (λ rs. IsRun sure bytes map calls rs last)

@@ -8,7 +8,7 @@ use Rattle.rart_keys.specs.SortedMap.{longest_key}
 use Rattle.rart_trie.specs.tries.Tree.{IsCanonicalTree, tree_pairs}
 use Rattle.rart_trie.specs.tries.Trie.{Trie}
 use Rattle.rart_trie.specs.walks.BelowPrefix.{below_bound}
-use Rattle.rart.specs.TreeFields.{AreTreeFields}
+use Rattle.rart.specs.MapAndShape.{AreTreeFields}
 
 -- the bound of a tree that kept some pairs, or 0 without pairs, is within the maximum
 within-kept : (m : Option ℕ) (longest kept bound : ℕ) → IsWithin m longest → (kept ≡ 0 → bound ≡ 0)
@@ -53,8 +53,9 @@ module _ {V : Type 0} where
   pairs-counted seen copied root n counted shows copies = counted ∙ ap (λ o. length (tree_pairs o)) (shows ∙ copies)
 
   -- the nodes on the way to the taken pairs, and those that are visited to count them
-  pub bound-taken : (p q : List ℕ) (es taken : List (List ℕ × V)) (start middle end n : ℕ) → p ≡ q
+  pub bound-taken : (es : List (List ℕ × V)) (start middle end : ℕ) {p q : List ℕ} {taken : List (List ℕ × V)} {n : ℕ}
+      → p ≡ q
       → taken ≡ below p es → middle ≤ start + length p + 1 → end ≤ middle + 2 * n → n ≡ length taken
       → end ≤ start + below_bound q es
-  bound-taken p q es taken start middle end n same takes first second counted = rw (← same)
+  bound-taken es start middle end same takes first second counted = rw (← same)
       (omega (arith, ap length takes))

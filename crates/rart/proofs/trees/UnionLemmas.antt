@@ -106,14 +106,14 @@ module _ {V W : Type 0} where
   first-alone d l m a b = rw (lookup-above d.0 m b)
       (put-before d.0 (Some d.1, None) (union_of l m) (above-union d.0 l m a b))
 
-  pub before-second : (d : List ℕ × V) (l : List (List ℕ × V)) (m : List (List ℕ × W)) → IsAscending (d ∷ l)
+  before-second : (d : List ℕ × V) (l : List (List ℕ × V)) (m : List (List ℕ × W)) → IsAscending (d ∷ l)
       → IsAscending m → first_order (d ∷ l) m ≡ Some Less
       → union_of (d ∷ l) m ≡ (d.0, (Some d.1, None)) ∷ union_of l m
   before-second d l [] a b o = first-alone d l [] a.0 tt
   before-second d l (e ∷ m) a b o = let less : IsLess d.0 e.0 = cc in
       first-alone d l (e ∷ m) a.0 (less, above-trans d.0 e.0 m less b.0)
 
-  pub with-second : (d : List ℕ × V) (l : List (List ℕ × V)) (e : List ℕ × W) (m : List (List ℕ × W))
+  with-second : (d : List ℕ × V) (l : List (List ℕ × V)) (e : List ℕ × W) (m : List (List ℕ × W))
       → IsAscending (d ∷ l) → first_order (d ∷ l) (e ∷ m) ≡ Some Equal
       → union_of (d ∷ l) (e ∷ m) ≡ (d.0, (Some d.1, Some e.1)) ∷ union_of l m
   with-second d l e m a o =
@@ -122,7 +122,7 @@ module _ {V W : Type 0} where
       let above : AreAbove e.0 l = rw same at a.0 in
       rw (second-first e l m above, ← same, same-bytes d.0, tied_itself nat_list_cmp_total d.0) refl
 
-  pub after-second : (l : List (List ℕ × V)) (e : List ℕ × W) (m : List (List ℕ × W)) → IsAscending l
+  after-second : (l : List (List ℕ × V)) (e : List ℕ × W) (m : List (List ℕ × W)) → IsAscending l
       → first_order l (e ∷ m) ≡ Some Greater
       → union_of l (e ∷ m) ≡ (e.0, (None, Some e.1)) ∷ union_of l m
   after-second [] e m a o = refl
@@ -140,11 +140,12 @@ module _ {V W : Type 0} where
       let first : first_order (d ∷ l') m ≡ Some Less = rw (← split) (sym order ∙ ap (λ z. Some z) less) in
       sym is ∙ rw split (before-second d l' m ascends up.1 first)
 
-  pub steps-both : (all : List (List ℕ × (Option V × Option W))) (l l' : List (List ℕ × V)) (m m' : List (List ℕ × W))
-      (d : List ℕ × V) (k : List ℕ) (w : W) (o : Ordering) → union_of l m ≡ all → IsAscending l × IsAscending m
+  pub steps-both : {all : List (List ℕ × (Option V × Option W))} {l l' : List (List ℕ × V)}
+      {m m' : List (List ℕ × W)} {d : List ℕ × V} {k : List ℕ} {w : W} {o : Ordering} → union_of l m ≡ all
+      → IsAscending l × IsAscending m
       → Some o ≡ first_order l m → o ≡ Equal → l ≡ d ∷ l' → m ≡ (k, w) ∷ m'
       → all ≡ (d.0, (Some d.1, Some w)) ∷ union_of l' m'
-  steps-both all l l' m m' d k w o is up order equal split split-m =
+  steps-both {l} {l'} {m'} {d} {k} {w} is up order equal split split-m =
       let ascends : IsAscending (d ∷ l') = rw split at up.0 in
       let first : first_order (d ∷ l') ((k, w) ∷ m') ≡ Some Equal
       = ap (λ z. first_order z ((k, w) ∷ m')) (sym split) ∙ ap (λ z. first_order l z) (sym split-m) ∙ sym order

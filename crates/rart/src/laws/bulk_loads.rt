@@ -4,7 +4,7 @@ ghost use Rattle.std.specs.List.Sorted.{IsPermutation};
 ghost use Rattle.rart_keys.specs.BulkLists.{put_all};
 ghost use Rattle.rart_keys.specs.SortedMap.{IsAscending, keys_of};
 ghost use Rattle.rart_trie.specs.stats.Stats.{stats_in, stats_of};
-ghost use Rattle.rart.specs.BulkLaw.{MayRefuseLoad, MayRefuseOneOf, RefusesStep};
+ghost use Rattle.rart.specs.BulkLoads.{MayRefuseLoad, MayRefuseOneOf, RefusesStep};
 ghost use Rattle.rart.specs.Steps.{pairs_in};
 
 use crate::bulk::BulkError;

@@ -4,6 +4,7 @@ ghost use Rattle.rart_keys.specs.Ranges.{between, bound_in};
 ghost use Rattle.rart_keys.specs.SortedMap.{values_of};
 ghost use Rattle.rart_trie.specs.edits.ValueChanges.{CanLend, ChangesBelow, ChangesBelowByValue, ChangesBetween};
 ghost use Rattle.rart_trie.specs.edits.ValueChanges.{ChangesBetweenByValue};
+ghost use Rattle.rart_trie.specs.ranges.LentBounds.{lent_bound};
 ghost use Rattle.rart_trie.specs.walks.BelowPrefix.{values_below};
 
 use crate::tree::AdaptiveRadixTree;
@@ -31,6 +32,36 @@ impl<K: KeyTrait, V> AdaptiveRadixTree<K, V> {
         ensures nodes { self.new.nodes ≡ self.old.nodes }
     {
         self.for_each_value_mut_by_ref(&mut f);
+    }
+
+    /// Calls `f` with a mutable reference to each value whose key begins with the bytes `prefix`, which may be longer
+    /// than any key, in the order of the keys. `f` must be callable with each of these values in turn; the caller keeps
+    /// it. Keys, nodes and the other values are unchanged. Makes no key, allocates nothing.
+    pub fn prefix_for_each_value_mut_by_ref_bytes<F: FnMut(&mut V)>(
+        &mut self,
+        prefix: &[u8],
+        f: &mut F,
+    )
+        requires callable { CanLend F.FnMut f.old (values_below prefix.now self.old.pairs) }
+        ensures stays_callable { F.IsAlwaysCallable f.old → F.IsAlwaysCallable f.new }
+        ensures changes { ChangesBelow F.FnMut prefix.now f.old self.old.pairs self.new.pairs f.new }
+        ensures nodes { self.new.nodes ≡ self.old.nodes }
+    {
+        DefaultNode::change_values(&mut self.root, prefix, f);
+    }
+
+    /// Calls `f` as [`prefix_for_each_value_mut_by_ref_bytes`](Self::prefix_for_each_value_mut_by_ref_bytes), and drops
+    /// it.
+    pub fn prefix_for_each_value_mut_bytes<F: FnMut(&mut V) + Drop>(
+        &mut self,
+        prefix: &[u8],
+        mut f: F,
+    )
+        requires callable { CanLend F.FnMut f (values_below prefix.now self.old.pairs) }
+        ensures changes { ChangesBelowByValue F.FnMut prefix.now f self.old.pairs self.new.pairs }
+        ensures nodes { self.new.nodes ≡ self.old.nodes }
+    {
+        self.prefix_for_each_value_mut_by_ref_bytes(prefix, &mut f);
     }
 
     /// Calls `f` with a mutable reference to each value whose key begins with `prefix`, in the order of the keys. `f`
@@ -67,6 +98,43 @@ impl<K: KeyTrait, V> AdaptiveRadixTree<K, V> {
         ensures nodes { self.new.nodes ≡ self.old.nodes }
     {
         self.prefix_for_each_value_mut_k(&prefix, f);
+    }
+
+    /// Calls `f` with a mutable reference to each value whose key is within two bounds, whose bytes may be more than any
+    /// key has, in the order of the keys; with none if the end is below the start. `f` must be callable with each of
+    /// these values in turn; the caller keeps it. Keys, nodes and the other values are unchanged. Makes no key,
+    /// allocates nothing.
+    pub fn range_for_each_value_mut_by_ref_bytes<F: FnMut(&mut V)>(
+        &mut self,
+        start: Bound<&[u8]>,
+        end: Bound<&[u8]>,
+        f: &mut F,
+    )
+        requires callable { CanLend F.FnMut f.old
+            (values_of (between (lent_bound start) (lent_bound end) self.old.pairs)) }
+        ensures stays_callable { F.IsAlwaysCallable f.old → F.IsAlwaysCallable f.new }
+        ensures changes { ChangesBetween F.FnMut (lent_bound start.entry) (lent_bound end.entry) f.old
+            self.old.pairs self.new.pairs f.new }
+        ensures nodes { self.new.nodes ≡ self.old.nodes }
+    {
+        DefaultNode::change_values_within(&mut self.root, start, end, f);
+    }
+
+    /// Calls `f` as [`range_for_each_value_mut_by_ref_bytes`](Self::range_for_each_value_mut_by_ref_bytes), and drops
+    /// it.
+    pub fn range_for_each_value_mut_bytes<F: FnMut(&mut V) + Drop>(
+        &mut self,
+        start: Bound<&[u8]>,
+        end: Bound<&[u8]>,
+        mut f: F,
+    )
+        requires callable { CanLend F.FnMut f
+            (values_of (between (lent_bound start) (lent_bound end) self.old.pairs)) }
+        ensures changes { ChangesBetweenByValue F.FnMut (lent_bound start.entry)
+            (lent_bound end.entry) f self.old.pairs self.new.pairs }
+        ensures nodes { self.new.nodes ≡ self.old.nodes }
+    {
+        self.range_for_each_value_mut_by_ref_bytes(start, end, &mut f);
     }
 
     /// Calls `f` with a mutable reference to each value whose key is within two bounds, in the order of the keys; with

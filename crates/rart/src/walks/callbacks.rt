@@ -95,7 +95,8 @@ impl<K: KeyTrait, V> AdaptiveRadixTree<K, V> {
         ensures unchanged { OnErr result (f.new ≡ f.old) }
         ensures memory { IfErr result (MayLackMemory self.now.pairs) }
     {
-        self.seen().prefix_values_for_each_by_ref_k(prefix, f)
+        self.seen()
+            .prefix_values_for_each_by_ref_k_counted(prefix, f, &mut Visits::new())
     }
 
     /// Calls `f` as [`prefix_values_for_each_by_ref_k`](Self::prefix_values_for_each_by_ref_k) does.
@@ -135,7 +136,8 @@ impl<K: KeyTrait, V> AdaptiveRadixTree<K, V> {
             (ShowsEachByValue F.FnMut f (values_below (K.bytes prefix.now) self.now.pairs)) }
         ensures memory { IfErr result (MayLackMemory self.now.pairs) }
     {
-        self.seen().prefix_values_for_each_k(prefix, f)
+        self.seen()
+            .prefix_values_for_each_k_counted(prefix, f, &mut Visits::new())
     }
 
     /// Calls `f` as [`prefix_values_for_each_by_ref_k`](Self::prefix_values_for_each_by_ref_k) does, and drops it.
@@ -178,7 +180,8 @@ impl<K: KeyTrait, V> AdaptiveRadixTree<K, V> {
         ensures unchanged { OnErr result (f.new ≡ f.old) }
         ensures memory { IfErr result (MayLackMemory self.now.pairs) }
     {
-        self.seen().prefix_values_fold_by_ref_k(prefix, init, f)
+        self.seen()
+            .prefix_values_fold_by_ref_k_counted(prefix, init, f, &mut Visits::new())
     }
 
     /// Folds as [`prefix_values_fold_by_ref_k`](Self::prefix_values_fold_by_ref_k) does.
@@ -222,7 +225,8 @@ impl<K: KeyTrait, V> AdaptiveRadixTree<K, V> {
             (FoldsEachByValue F.FnMut f init (values_below (K.bytes prefix.now) self.now.pairs)) }
         ensures memory { IfErr result (MayLackMemory self.now.pairs) }
     {
-        self.seen().prefix_values_fold_k(prefix, init, f)
+        self.seen()
+            .prefix_values_fold_k_counted(prefix, init, f, &mut Visits::new())
     }
 
     /// Folds as [`prefix_values_fold_by_ref_k`](Self::prefix_values_fold_by_ref_k) does, and drops `f`.
@@ -265,7 +269,8 @@ impl<K: KeyTrait, V> AdaptiveRadixTree<K, V> {
             (values_below (K.bytes prefix.now) self.now.pairs) result f.new }
         ensures memory { IfErr result (MayStopForMemory self.now.pairs) }
     {
-        self.seen().try_prefix_values_for_each_by_ref_k(prefix, f)
+        self.seen()
+            .try_prefix_values_for_each_by_ref_k_counted(prefix, f, &mut Visits::new())
     }
 
     /// Calls `f` as [`try_prefix_values_for_each_by_ref_k`](Self::try_prefix_values_for_each_by_ref_k) does.
@@ -305,7 +310,8 @@ impl<K: KeyTrait, V> AdaptiveRadixTree<K, V> {
             (values_below (K.bytes prefix.now) self.now.pairs) result }
         ensures memory { IfErr result (MayStopForMemory self.now.pairs) }
     {
-        self.seen().try_prefix_values_for_each_k(prefix, f)
+        self.seen()
+            .try_prefix_values_for_each_k_counted(prefix, f, &mut Visits::new())
     }
 
     /// Calls `f` as [`try_prefix_values_for_each_by_ref_k`](Self::try_prefix_values_for_each_by_ref_k) does, and drops

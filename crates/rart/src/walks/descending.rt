@@ -34,6 +34,22 @@ impl<K: KeyTrait, V> AdaptiveRadixTree<K, V> {
         self.seen().iter_descending()
     }
 
+    /// Returns an iterator over the pairs whose key begins with the bytes `prefix`, which may be longer than any key,
+    /// descending.
+    ///
+    /// # Errors
+    ///
+    /// [`TreeError::Memory`] if the tree isn't empty and the allocation fails.
+    pub fn prefix_iter_descending_bytes(
+        &self,
+        prefix: &[u8],
+    ) -> Result<Descending<'_, K, V>, TreeError>
+        ensures pairs { IfOk result (λ it. it ≡ reverse (below prefix.now self.now.pairs)) }
+        ensures memory { IfErr result (MayLackMemory self.now.pairs) }
+    {
+        self.seen().prefix_iter_descending_bytes(prefix)
+    }
+
     /// Returns an iterator over the pairs whose key begins with `prefix`, descending.
     ///
     /// # Errors

@@ -187,6 +187,50 @@ impl<K: KeyTrait, V> AdaptiveRadixTree<K, V> {
             .for_each_range_view_counted(start, end, f, &mut Visits::new())
     }
 
+    /// Calls `f` once with a view of the longest key that begins the bytes `probe`, which may be longer than any key, and
+    /// with its value, and returns `true`; returns `false` if there is no such key. The caller keeps `f`.
+    ///
+    /// # Errors
+    ///
+    /// [`TreeError::Memory`] if there is such a key and the allocation for its segments fails. `f` is then not called.
+    pub fn with_longest_prefix_match_view_by_ref_bytes<F: FnMut(LendingKeyView<'_, '_>, &V)>(
+        &self,
+        probe: &[u8],
+        f: &mut F,
+    ) -> Result<bool, TreeError>
+        requires callable { CanShowFound F.FnMut f.old (keys_of self.now.pairs)
+            (longest_match probe.now self.now.pairs) }
+        ensures stays_callable { F.IsAlwaysCallable f.old → F.IsAlwaysCallable f.new }
+        ensures calls { IfOk result (ShowsFound F.FnMut f.old (keys_of self.now.pairs)
+            (longest_match probe.now self.now.pairs) f.new) }
+        ensures unchanged { OnErr result (f.new ≡ f.old) }
+        ensures memory { IfErr result (MayLackMatch probe.now self.now.pairs) }
+    {
+        self.seen()
+            .with_longest_prefix_match_view_by_ref_bytes_counted(probe, f, &mut Visits::new())
+    }
+
+    /// Calls `f` as [`with_longest_prefix_match_view_by_ref_bytes`](Self::with_longest_prefix_match_view_by_ref_bytes)
+    /// does, and consumes it.
+    ///
+    /// # Errors
+    ///
+    /// [`TreeError::Memory`] if there is such a key and the allocation for its segments fails. `f` is then not called.
+    pub fn with_longest_prefix_match_view_bytes<F: FnOnce(LendingKeyView<'_, '_>, &V) + Drop>(
+        &self,
+        probe: &[u8],
+        f: F,
+    ) -> Result<bool, TreeError>
+        requires callable { CanSeeFound F.FnOnce f (keys_of self.now.pairs)
+            (longest_match probe.now self.now.pairs) }
+        ensures calls { IfOk result (SeesFound F.FnOnce f (keys_of self.now.pairs)
+            (longest_match probe.now self.now.pairs)) }
+        ensures memory { IfErr result (MayLackMatch probe.now self.now.pairs) }
+    {
+        self.seen()
+            .with_longest_prefix_match_view_bytes_counted(probe, f, &mut Visits::new())
+    }
+
     /// Calls `f` once with a view of the longest key that begins `probe` and with its value, and returns `true`;
     /// returns `false` if there is no such key. The caller keeps `f`.
     ///
@@ -251,7 +295,8 @@ impl<K: KeyTrait, V> AdaptiveRadixTree<K, V> {
             (longest_match (K.bytes probe.now) self.now.pairs)) }
         ensures memory { IfErr result (MayLackMatch (K.bytes probe.now) self.now.pairs) }
     {
-        self.seen().with_longest_prefix_match_view_k(probe, f)
+        self.seen()
+            .with_longest_prefix_match_view_k_counted(probe, f, &mut Visits::new())
     }
 
     /// Calls `f` as [`with_longest_prefix_match_view_k`](Self::with_longest_prefix_match_view_k) does.

@@ -120,9 +120,10 @@ module _ {V W : Type 0} where
       }
 
   -- after the bytes that both rests begin with
-  pub place-common : (t : Trie V) (u : Trie W) (p w l r k q : List ℕ) (a : Trie V) (b : Trie W) (i j : ℕ) → k ≡ w ++ l
+  pub place-common : {t : Trie V} {u : Trie W} {p l r k q : List ℕ} {a : Trie V} {b : Trie W} {i j : ℕ} (w : List ℕ)
+      → k ≡ w ++ l
       → q ≡ w ++ r → Place t u p a k b q i j → Place t u (p ++ w) a l b r i j
-  place-common t u p w l r k q a b i j e f h =
+  place-common {t} {u} {p} {l} {r} {a} {b} {i} {j} w e f h =
       let h' : Place t u p a (w ++ l) b (w ++ r) i j = rw (← e, ← f) h in
       let step = turn-common w l r a b in
       record {
@@ -150,11 +151,11 @@ module _ {V W : Type 0} where
       → l ≡ x ∷ k → r ≡ y ∷ q → (x ≡ y → ⊥) → Place t u p a l b r i j → IsEnd t u i j
   place-apart t u p l r k q x y a b i j e f d h = ended t u p l r a b i j h (rw (e, f) (turn-apart x y k q a b d))
 
-  pub place-parted : (t : Trie V) (u : Trie W) (p l r k : List ℕ) (x : ℕ) (a : Trie V) (b : Trie W) (i j : ℕ)
+  pub place-parted : {t : Trie V} {u : Trie W} {p l r k : List ℕ} {x : ℕ} {a : Trie V} {b : Trie W} {i j : ℕ}
       → l ≡ x ∷ k → 0 < length r
       → ((x y : ℕ) (k q : List ℕ) → l ≡ x ∷ k → r ≡ y ∷ q → x ≡ y → ⊥) → Place t u p a l b r i j → IsEnd t u i j
-  place-parted t u p l [] k x a b i j e n d h = absurd (omega arith)
-  place-parted t u p l (y ∷ q) k x a b i j e n d h
+  place-parted {r = []} e n d h = absurd (omega arith)
+  place-parted {t} {u} {p} {l} {r = y ∷ q} {k} {x} {a} {b} {i} {j} e n d h
       = place-apart t u p l (y ∷ q) k q x y a b i j e refl (d x y k q e refl) h
 
   pub place-left_none : (t : Trie V) (u : Trie W) (p l r q : List ℕ) (y : ℕ) (a : Trie V) (b : Trie W) (i j : ℕ)
@@ -201,10 +202,10 @@ module _ {V W : Type 0} where
     falls = f;
   }
 
-  pub place-left : (t : Trie V) (u : Trie W) (p l r q k : List ℕ) (y : ℕ) (a z : Trie V) (b : Trie W) (i j : ℕ)
+  pub place-left : {t : Trie V} {u : Trie W} {p l r q k : List ℕ} {y : ℕ} {a z : Trie V} {b : Trie W} {i j : ℕ}
       → is_canonical a ≡ true → is_canonical z ≡ true → l ≡ [] → r ≡ y ∷ q → child_in y a ≡ Some z → prefix_of z ≡ y ∷ k
       → Place t u p a l b r i j → Step t u (p ++ y ∷ []) z k b q (i + 1) j (node_count a + node_count b)
-  place-left t u p l r q k y a z b i j c d e f n m h =
+  place-left {t} {u} {p} {l} {r} {q} {k} {y} {a} {z} {b} {i} {j} c d e f n m h =
       let step = turn-left y q a b c in
       let same : with_rest (y ∷ k) z ≡ z = with_rest-whole (y ∷ k) z (sym m) in
       let next = turn-common (y ∷ []) k q z b in
@@ -222,10 +223,10 @@ module _ {V W : Type 0} where
         ap (λ x. longest_key (pairs_of x)) same,
       )) h
 
-  pub place-right : (t : Trie V) (u : Trie W) (p l r k q : List ℕ) (x : ℕ) (a : Trie V) (b z : Trie W) (i j : ℕ)
+  pub place-right : {t : Trie V} {u : Trie W} {p l r k q : List ℕ} {x : ℕ} {a : Trie V} {b z : Trie W} {i j : ℕ}
       → is_canonical b ≡ true → l ≡ x ∷ k → r ≡ [] → child_in x b ≡ Some z → prefix_of z ≡ x ∷ q
       → Place t u p a l b r i j → Step t u (p ++ x ∷ []) a k z q (i + 1) j (node_count a + node_count b)
-  place-right t u p l r k q x a b z i j c e f n m h =
+  place-right {t} {u} {p} {l} {r} {k} {q} {x} {a} {b} {z} {i} {j} c e f n m h =
       let step = turn-right x k a b c in
       let same : with_rest (x ∷ q) z ≡ z = with_rest-whole (x ∷ q) z (sym m) in
       let next = turn-common (x ∷ []) k q a z in
@@ -241,9 +242,9 @@ module _ {V W : Type 0} where
     pub aligned : IsAligned t u p a b
     pub visits : i + visits_all (shared_right a (children_in b)) ≡ j + more_visits t u
 
-  pub place-aligned : (t : Trie V) (u : Trie W) (p l r : List ℕ) (a : Trie V) (b : Trie W) (i j : ℕ)
+  pub place-aligned : {t : Trie V} {u : Trie W} {p l r : List ℕ} {a : Trie V} {b : Trie W} {i j : ℕ}
       → is_canonical a ≡ true → l ≡ [] → r ≡ [] → Place t u p a l b r i j → Aligned t u p a b i j
-  place-aligned t u p l r a b i j c e f h =
+  place-aligned {t} {u} {p} {l} {a} {b} {i} {j} c e f h =
       let step = turn-both a b c in
       let h' : Place t u p a [] b [] i j = subst (λ (z : List ℕ). Place t u p a z b [] i j) e
       (subst (λ (z : List ℕ). Place t u p a l b z i j) f h) in
@@ -261,6 +262,7 @@ module _ {V W : Type 0} where
       → prefix_of t ≡ prefix_of u → Aligned t u l t u i i
   place-equal t u l i c e f =
       let whole_left : l ≡ l ++ [] = sym (append-nil l) in
-      place-aligned t u l [] [] t u i i c refl refl
-      (place-common t u [] l [] [] l (prefix_of u) t u i i whole_left (sym f ∙ sym e ∙ whole_left)
+      place-aligned {t = t} {u = u} {p = l} {l = []} {r = []} {a = t} {b = u} {i = i} {j = i} c refl refl
+      (place-common {t = t} {u = u} {p = []} {l = []} {r = []} {k = l} {q = prefix_of u} {a = t} {b = u} {i = i} {j = i} l
+      whole_left (sym f ∙ sym e ∙ whole_left)
       (place-start t u l (prefix_of u) i c e refl))

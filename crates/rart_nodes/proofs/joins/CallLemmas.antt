@@ -9,8 +9,8 @@ use Rattle.rart_nodes.specs.declared.node.intersect.join_path.JoinPath.TheVarian
 use Rattle.rart_nodes.specs.declared.node.view.LendingKeyView.{LendingKeyView}
 use Rattle.rart_nodes.specs.joins.Visitors.{CanGive, CanGiveKeys, CanGiveValues, CanGiveViews, GivenKeys, GivenTried}
 use Rattle.rart_nodes.specs.joins.Visitors.{GivenValues, GivenViews, Throughout}
-use Rattle.rart_nodes.specs.declared.node.walks.control.VisitControl.{VisitControl}
-use Rattle.rart_nodes.specs.declared.node.walks.control.VisitControl.TheVariants.{Continue, Stop}
+use Rattle.rart_nodes.specs.declared.node.control.VisitControl.{VisitControl}
+use Rattle.rart_nodes.specs.declared.node.control.VisitControl.TheVariants.{Continue, Stop}
 use Rattle.rart_nodes.specs.joins.TriedPairs.{AnsweredAt, TriedOn, TriesEach}
 use Rattle.rart_nodes.specs.walks.Tried.{ContinuesAs}
 use Rattle.rart_nodes.specs.walks.TriedViews.{EndsBy}

@@ -238,10 +238,10 @@ module _ {V : Type 0} (eq : V → V → Bool) where
       = rw (h, i, s, e, l) (sym (g a))
 
   -- the next two children differ
-  pub next-differ : (t u x y : Trie V) (b c : ℕ) (cs ds xs ys : Children V)
+  pub next-differ : (t u x : Trie V) {y : Trie V} {b c : ℕ} {cs ds xs ys : Children V}
       → same_children eq (children_in t) (children_in u) ≡ same_children eq cs ds → cs ≡ child b x xs
       → ds ≡ child c y ys → false ≡ same_tries eq x y → false ≡ same_tries eq t u
-  next-differ (node p v n es) (node q w m fs) x y b c cs ds xs ys h e f k = rw (h, e, f, ← k)
+  next-differ (node p v n es) (node q w m fs) x {b} {c} h e f k = rw (h, e, f, ← k)
       (elim (pointwise nat_eq p q) as (λ z. false ≡ (z && (same_value eq v w && (b == c && false)))) [
         | true ↦ elim (same_value eq v w) as (λ z. false ≡ (z && (b == c && false))) [
           | true ↦ elim (b == c) as (λ z. false ≡ (z && false)) [ true ↦ refl | false ↦ refl ]

@@ -1,12 +1,14 @@
 -- What an intersection has given at two nodes and at each pair of their children.
 use Rattle.std.proofs.Common.{◌≡◌, ℕ, ◌+◌, ◌<◌, ◌≤◌, min, List, [], ◌∷◌, ◌++◌, length, Option, Some, None, refl, arith}
-use Rattle.std.proofs.Common.{ap, subst, sym, ◌∙◌, Result, Ok, Err}
+use Rattle.std.proofs.Common.{ap, false, subst, sym, ◌∙◌, Result, Ok, Err}
 use Rattle.std.proofs.lemmas.List.{append-nil, append_assoc, length-map}
+use Rattle.std.specs.Bool.{IsTrue}
 use Rattle.std.specs.List.{FoldsTo}
+use Rattle.std.specs.Result.{is_ok}
 use Rattle.rart_keys.specs.Joins.{both}
 use Rattle.rart_keys.specs.SortedMap.{longest_key, values_of}
 use Rattle.rart_nodes.specs.joins.Intersections.{intersect_nodes}
-use Rattle.rart_nodes.specs.joins.Visitors.{AreVisitors, CanDeeper, CanGive, CountedOn, most_count}
+use Rattle.rart_nodes.specs.joins.Visitors.{AreVisitors, CanDeeper, CanGive, CountedOn, GivenFirst, most_count}
 use Rattle.rart_trie.specs.tries.PrefixLaws.{prefix-append, prefix-none}
 use Rattle.rart_nodes.specs.joins.JoinPaths.{Kept, PathGrown, PathCut, path_mark}
 use Rattle.rart_nodes.specs.joins.SharedEdges.{more_visits}
@@ -28,6 +30,14 @@ counted-is n m (e ∷ es) h f = omega (arith, f.1, counted-is f.0 m es (omega (a
 pub count-is : {X : Type 0} (m : ℕ) (es : List (List ℕ × X)) → FoldsTo (λ p x q. CountedOn p x q) 0 (values_of es) m
     → m ≡ min (length es) most_count
 count-is m es f = omega (arith, counted-is 0 m (values_of es) (omega arith) f, length-map es (λ e. e.1))
+
+-- a walk that its first pair ends goes through where there is none
+pub first-decides : {F X : Type 0} (s : Kept) (f g : F) (es : List (List ℕ × X)) (r : Result (Unit {0}) (Unit {0}))
+    → GivenFirst s f es r g → (IsTrue (is_ok r) → length es ≡ 0) × (length es ≡ 0 → IsTrue (is_ok r))
+first-decides s f g [] r h = (λ t. refl, λ e. rw h.0 refl)
+first-decides s f g (e ∷ es) r h =
+    let not : is_ok r ≡ false = rw h.0 refl in
+    (λ t. absurd (cc), λ n. absurd (omega (arith, n)))
 
 -- given with whole keys, where nothing of the path was kept before
 pub given-whole : {F X : Type 0} (r : F → List ℕ × X → F → Type 0) (k : List ℕ) (f g : F) (es : List (List ℕ × X))

@@ -2,7 +2,7 @@
 use Rattle.std.proofs.Common.{◌≡◌, ℕ, Bool, true, List, [], ◌++◌, reverse, Option, sym, ap, ◌∙◌, arith}
 use Rattle.std.proofs.Common.{Less, Greater}
 use Rattle.std.proofs.lemmas.List.{append-nil, append_assoc}
-use Rattle.rart_nodes.specs.ranges.BackWalk.{BackLevel, remaining_entries}
+use Rattle.rart_nodes.specs.ranges.DescendingWalk.{DescendingLevel, remaining_entries}
 use Rattle.rart_nodes.specs.ranges.Steps.{AllCompare, StepsFrom, StepsUntil, whole, own_key, in_child, children_after}
 use Rattle.rart_nodes.specs.ranges.UpperBounds.{entries_until, if_included}
 use Rattle.rart_trie.specs.ranges.Starts.{children_above, entries_from}
@@ -112,6 +112,7 @@ module _ {V : Type 0} where
   remaining-higher g h k s t B total j a r = sym (append-nil B)
       ∙ ap (λ z. B ++ segments_after k z) (sym (by-apart (is_before h) Greater g s t j a)) ∙ r
 
-  pub remaining-start : (g : Grown) (k : SegmentList) (st : List (BackLevel V)) (es : List (SegmentList × V)) → k ≡ []
+  pub remaining-start : (g : Grown) (k : SegmentList) (st : List (DescendingLevel V)) (es : List (SegmentList × V))
+      → k ≡ []
       → st ≡ [] → remaining_entries g k (reverse st) ++ segments_after k es ≡ es
   remaining-start g k st es e f = rw (e, f) (after-none es)

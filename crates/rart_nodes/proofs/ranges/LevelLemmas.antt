@@ -1,4 +1,4 @@
--- What a walk from the back keeps as it begins at a node, continues to one, or leaves a level.
+-- What a descending walk keeps as it begins at a node, continues to one, or leaves a level.
 use Rattle.std.proofs.Common.{◌≡◌, ℕ, ◌+◌, ◌<◌, ◌≤◌, ⊎_elim, max, true, List, [], ◌∷◌, ◌++◌, length}
 use Rattle.std.proofs.Common.{map, take, reverse, Option, Some, refl, sym, ap, ◌∙◌, arith, length-append}
 use Rattle.std.proofs.Common.{slice_index_or, slice_set}
@@ -6,7 +6,8 @@ use Rattle.std.specs.Borrow.{Bor}
 use Rattle.std.specs.Option.{option_copied}
 use Rattle.std.proofs.lemmas.List.{append-nil, append_assoc, length-map, length-reverse, take_all}
 use Rattle.rart_keys.specs.SortedMap.{longest_key}
-use Rattle.rart_nodes.specs.ranges.BackWalk.{BackLevel, BackLeft, BackStep, IsBackWalk, PushesNode, remaining_entries}
+use Rattle.rart_nodes.specs.ranges.DescendingWalk.{DescendingLevel, DescendingLeft, DescendingStep, IsDescendingWalk}
+use Rattle.rart_nodes.specs.ranges.DescendingWalk.{PushesNode, remaining_entries}
 use Rattle.rart_trie.specs.ranges.Under.{with_last}
 use Rattle.rart_trie.specs.tries.CanonicalTest.{is_canonical}
 use Rattle.rart_trie.specs.tries.Trie.{Trie, node, Children, no_children, children_in, children_pairs, pairs_of}
@@ -22,9 +23,10 @@ use Rattle.rart_nodes.proofs.walks.PathLemmas.{level-pushed, no-levels, node-par
 use Rattle.rart_nodes.proofs.walks.WalkLemmas.{after-append, after-own, own-entries, work_left}
 
 module _ {V : Type 0} where
-  pub step-last : (st : List (BackLevel V)) (n : ℕ) (l : BackLevel V) (ds : Children V) (t : Trie V) → n + 1 ≡ length st
+  pub step-last : (st : List (DescendingLevel V)) (n : ℕ) (l : DescendingLevel V) (ds : Children V) (t : Trie V)
+      → n + 1 ≡ length st
       → l ≡ slice_index_or st n l → (b : ℕ) × (l.0.0 ≡ with_last ds b t)
-      → BackStep st t l.0.1 (slice_set st n ((ds, l.0.1), l.1))
+      → DescendingStep st t l.0.1 (slice_set st n ((ds, l.0.1), l.1))
   step-last st n l ds t h e f =
       let r = last-set st n l ((ds, l.0.1), l.1) h e in
       record {
@@ -37,21 +39,21 @@ module _ {V : Type 0} where
       }
 
   -- the levels alone
-  abbrev pub levels_of : List (BackLevel V) → List (Level V)
+  abbrev pub levels_of : List (DescendingLevel V) → List (Level V)
   levels_of ls = map (λ l. l.0) ls
 
-  length-levels : (st : List (BackLevel V)) → length (levels_of (reverse st)) ≡ length st
+  length-levels : (st : List (DescendingLevel V)) → length (levels_of (reverse st)) ≡ length st
   length-levels st = length-map (reverse st) (λ l. l.0) ∙ length-reverse st
 
   -- how much there is to do at most
-  abbrev pub work_after : List (BackLevel V) → ℕ
+  abbrev pub work_after : List (DescendingLevel V) → ℕ
   work_after ls = work_left (levels_of ls)
 
   node-nodes : (t : Trie V) → node_count t ≡ child_count (children_in t) + 1
   node-nodes (node p v n cs) = refl
 
   -- the values that remain at the levels of a path depend only on what it keeps above them
-  remaining-same : (g : Grown) (longest deep d : ℕ) (k p : SegmentList) (ls : List (BackLevel V))
+  remaining-same : (g : Grown) (longest deep d : ℕ) (k p : SegmentList) (ls : List (DescendingLevel V))
       → AreLevels longest deep (levels_of ls) → deep ≤ d → d ≤ length k → remaining_entries g (take d k ++ p) ls
       ≡ remaining_entries g k ls
   remaining-same g longest deep d k p [] w h l = refl
@@ -63,17 +65,19 @@ module _ {V : Type 0} where
       ) refl
 
   -- a level of some of a node's children, with a value, comes after the others
-  pub record BackLevelPushed (g : Grown) (longest places : ℕ) (k k1 : SegmentList) (ls ms : List (BackLevel V))
+  pub record DescendingLevelPushed (g : Grown) (longest places : ℕ) (k k1 : SegmentList)
+      (ls ms : List (DescendingLevel V))
       (cs : Children V) (v : Option (Bor V)) : Type 0 where
-    pub path : IsBackWalk longest places k1 ms
+    pub path : IsDescendingWalk longest places k1 ms
     pub still : remaining_entries g k1 ms
         ≡ remaining_entries g k ls ++ segments_after k1 (value_at [] (option_copied v) ++ children_entries g cs)
 
   pub pushed : (g : Grown) (longest places places1 : ℕ) (k k1 : SegmentList) (t : Trie V) (cs : Children V)
-      (v : Option (Bor V)) (st st1 : List (BackLevel V)) → IsShort g → is_canonical t ≡ true
-      → IsBackWalk longest places k (reverse st) → longest < places → IsPathReserved longest k (length st) (Some t)
+      (v : Option (Bor V)) (st st1 : List (DescendingLevel V)) → IsShort g → is_canonical t ≡ true
+      → IsDescendingWalk longest places k (reverse st) → longest < places
+      → IsPathReserved longest k (length st) (Some t)
       → ArePart 0 cs (children_in t) → k1 ≡ k ++ g (prefix_of t) → st1 ≡ st ++ ((cs, length k1), v) ∷ []
-      → places1 ≡ places → BackLevelPushed g longest places1 k k1 (reverse st) (reverse st1) cs v
+      → places1 ≡ places → DescendingLevelPushed g longest places1 k k1 (reverse st) (reverse st1) cs v
   pushed g longest places places1 k k1 t cs v st st1 s c q r w a i e f =
       let p : SegmentList = g (prefix_of t) in
       rw (deepest st1 st ((cs, length k1), v) e, f, i) (record {
@@ -88,10 +92,10 @@ module _ {V : Type 0} where
 
   -- a walk begins at a node, to which the path is k0
   pub start : (g : Grown) (longest places : ℕ) (t : Trie V) (k0 k : SegmentList) (v : Option (Bor V)) (cs : Children V)
-      (st rest : List (BackLevel V)) → IsShort g → is_canonical t ≡ true
+      (st rest : List (DescendingLevel V)) → IsShort g → is_canonical t ≡ true
       → length k0 + longest_key (pairs_of t) ≤ longest → longest < places → k ≡ k0 ++ g (prefix_of t)
       → cs ≡ children_in t → rest ≡ [] → st ≡ rest ++ ((cs, length k), v) ∷ []
-      → IsBackWalk longest places k (reverse st)
+      → IsDescendingWalk longest places k (reverse st)
   start g longest places t k0 k v cs st rest h w l r i j e f
       = (pushed g longest places places k0 k t (children_in t) v [] st h w
       (no-levels longest places k0 (omega (arith, l))) r (first-reserved longest 0 k0 t w refl l) (node-part t w) i
@@ -105,7 +109,8 @@ module _ {V : Type 0} where
       (sym (own-entries g k0 t))
 
   pub start-entries : (g : Grown) (t : Trie V) (k0 k : SegmentList) (v : Option (Bor V)) (cs : Children V)
-      (st rest : List (BackLevel V)) → k ≡ k0 ++ g (prefix_of t) → option_copied v ≡ value_of t → cs ≡ children_in t
+      (st rest : List (DescendingLevel V)) → k ≡ k0 ++ g (prefix_of t) → option_copied v ≡ value_of t
+      → cs ≡ children_in t
       → rest ≡ [] → st ≡ rest ++ ((cs, length k), v) ∷ []
       → remaining_entries g k (reverse st) ≡ segments_after k0 (entries_of g t)
   start-entries g t k0 k v cs st rest i h j e f = rw (deepest st rest ((cs, length k), v) f, e, i, j)
@@ -122,13 +127,14 @@ module _ {V : Type 0} where
       child-known longest places d b k t cs (with_last cs b t) ls p c.1 c.2 c.0 (omega (arith, m)) (omega (arith, m))
 
   -- a walk continues from the deepest level to its last child, after whose prefix the path is k1
-  pub record BackTurn (g : Grown) (longest places : ℕ) (k k1 : SegmentList) (ls ms : List (BackLevel V)) : Type 0 where
-    pub path : IsBackWalk longest places k1 ms
+  pub record DescendingTurn (g : Grown) (longest places : ℕ) (k k1 : SegmentList) (ls ms : List (DescendingLevel V))
+      : Type 0 where
+    pub path : IsDescendingWalk longest places k1 ms
     pub still : remaining_entries g k1 ms ≡ remaining_entries g k ls
     pub falls : work_after ms < work_after ls
 
   turn-still : (g : Grown) (longest d : ℕ) (k : SegmentList) (t : Trie V) (b : ℕ) (cs : Children V)
-      (u v : Option (Bor V)) (ls : List (BackLevel V)) → AreLevels longest d (levels_of ls) → d ≤ length k
+      (u v : Option (Bor V)) (ls : List (DescendingLevel V)) → AreLevels longest d (levels_of ls) → d ≤ length k
       → option_copied u ≡ value_of t
       → remaining_entries g (take d k ++ g (prefix_of t))
       (((children_in t, length (take d k ++ g (prefix_of t))), u) ∷ ((cs, d), v) ∷ ls)
@@ -153,29 +159,31 @@ module _ {V : Type 0} where
       ∙ ap (λ z. own ++ z) (sym (entries-last g b t cs)))))
 
   -- the levels before a child is visited
-  pub level-before : (d : ℕ) (t : Trie V) (st st1 : List (BackLevel V)) (s : BackStep st t d st1)
+  pub level-before : (d : ℕ) (t : Trie V) (st st1 : List (DescendingLevel V)) (s : DescendingStep st t d st1)
       → reverse st ≡ ((with_last s.others s.edge t, d), s.value) ∷ reverse s.rest
   level-before d t st st1 s = deepest st s.rest ((with_last s.others s.edge t, d), s.value) s.was
 
   -- the child that is visited
-  pub next-child : (longest places d : ℕ) (k : SegmentList) (t : Trie V) (st st1 : List (BackLevel V))
-      → IsBackWalk longest places k (reverse st) → (s : BackStep st t d st1)
+  pub next-child : (longest places d : ℕ) (k : SegmentList) (t : Trie V) (st st1 : List (DescendingLevel V))
+      → IsDescendingWalk longest places k (reverse st) → (s : DescendingStep st t d st1)
       → Child longest places k d t s.others (levels_of (reverse s.rest))
   next-child longest places d k t st st1 p s
       = last-child longest places k d t s.edge s.others (levels_of (reverse s.rest))
       (rw (level-before d t st st1 s) at p)
 
-  pub space : (longest places d : ℕ) (k : SegmentList) (t : Trie V) (st st1 : List (BackLevel V))
-      → IsBackWalk longest places k (reverse st) → BackStep st t d st1 → Space longest places d t (length st1)
+  pub space : (longest places d : ℕ) (k : SegmentList) (t : Trie V) (st st1 : List (DescendingLevel V))
+      → IsDescendingWalk longest places k (reverse st) → DescendingStep st t d st1
+      → Space longest places d t (length st1)
   space longest places d k t st st1 p s
       = child-space longest places d (length st1) k t s.others (levels_of (reverse s.rest))
       (next-child longest places d k t st st1 p s)
       (omega (arith, ap length s.is, length-append s.rest (((s.others, d), s.value) ∷ []), length-levels s.rest))
 
   pub turn : (g : Grown) (longest places places1 d : ℕ) (k k1 : SegmentList) (t : Trie V)
-      (st st1 st2 : List (BackLevel V)) → IsShort g → IsBackWalk longest places k (reverse st)
-      → BackStep st t d st1 → k1 ≡ take d k ++ g (prefix_of t) → PushesNode st1 t (length k1) st2 → places1 ≡ places
-      → BackTurn g longest places1 k k1 (reverse st) (reverse st2)
+      (st st1 st2 : List (DescendingLevel V)) → IsShort g → IsDescendingWalk longest places k (reverse st)
+      → DescendingStep st t d st1 → k1 ≡ take d k ++ g (prefix_of t) → PushesNode st1 t (length k1) st2
+      → places1 ≡ places
+      → DescendingTurn g longest places1 k k1 (reverse st) (reverse st2)
   turn g longest places places1 d k k1 t st st1 st2 h p s i o m =
       let c = next-child longest places d k t st st1 p s in
       let e : reverse st2 ≡ ((children_in t, length k1), o.0) ∷ ((s.others, d), s.value) ∷ reverse s.rest
@@ -188,7 +196,8 @@ module _ {V : Type 0} where
       })
 
   -- the level that was left had no more children
-  pub left-level : (st st1 rest : List (BackLevel V)) (l : BackLevel V) → BackLeft st st1 → st1 ≡ rest ++ l ∷ []
+  pub left-level : (st st1 rest : List (DescendingLevel V)) (l : DescendingLevel V) → DescendingLeft st st1
+      → st1 ≡ rest ++ l ∷ []
       → (reverse st ≡ l ∷ reverse rest) × (l.0.0 ≡ no_children)
   left-level st st1 rest l s e =
       let here : reverse st ≡ l ∷ reverse rest = ap reverse (sym s.same) ∙ deepest st1 rest l e in
@@ -200,15 +209,15 @@ module _ {V : Type 0} where
       (here, ap (λ x. x.0.0) (sym one) ∙ z.1.1.1)) s.left
 
   -- a walk leaves a level, whose node's value comes then
-  pub record BackLeave (g : Grown) (longest places : ℕ) (k k1 : SegmentList) (ls rest : List (BackLevel V))
+  pub record DescendingLeave (g : Grown) (longest places : ℕ) (k k1 : SegmentList) (ls rest : List (DescendingLevel V))
       (v : Option V) : Type 0 where
-    pub path : IsBackWalk longest places k1 rest
+    pub path : IsDescendingWalk longest places k1 rest
     pub still : remaining_entries g k ls ≡ remaining_entries g k1 rest ++ value_at k1 v
     pub falls : work_after rest < work_after ls
 
-  leave-at : (g : Grown) (longest places d : ℕ) (k : SegmentList) (v : Option (Bor V)) (ls : List (BackLevel V))
-      → IsBackWalk longest places k (((no_children, d), v) ∷ ls)
-      → BackLeave g longest places k (take d k) (((no_children, d), v) ∷ ls) ls (option_copied v)
+  leave-at : (g : Grown) (longest places d : ℕ) (k : SegmentList) (v : Option (Bor V)) (ls : List (DescendingLevel V))
+      → IsDescendingWalk longest places k (((no_children, d), v) ∷ ls)
+      → DescendingLeave g longest places k (take d k) (((no_children, d), v) ∷ ls) ls (option_copied v)
   leave-at g longest places d k v ls p =
       let w = p.stations in
       let same : remaining_entries g (take d k) ls ≡ remaining_entries g k ls
@@ -223,19 +232,20 @@ module _ {V : Type 0} where
         falls = omega arith;
       }
 
-  leave-one : (g : Grown) (longest places : ℕ) (k k1 : SegmentList) (l : BackLevel V) (cs : Children V)
-      (ls : List (BackLevel V)) → IsBackWalk longest places k (l ∷ ls) → l.0.0 ≡ cs → cs ≡ no_children
-      → k1 ≡ take l.0.1 k → BackLeave g longest places k k1 (l ∷ ls) ls (option_copied l.1)
+  leave-one : (g : Grown) (longest places : ℕ) (k k1 : SegmentList) (l : DescendingLevel V) (cs : Children V)
+      (ls : List (DescendingLevel V)) → IsDescendingWalk longest places k (l ∷ ls) → l.0.0 ≡ cs → cs ≡ no_children
+      → k1 ≡ take l.0.1 k → DescendingLeave g longest places k k1 (l ∷ ls) ls (option_copied l.1)
   leave-one g longest places k k1 l cs ls p e f i =
       let same : l ≡ ((no_children, l.0.1), l.1) = ap (λ z. ((z, l.0.1), l.1)) (e ∙ f) in
-      let q : IsBackWalk longest places k (((no_children, l.0.1), l.1) ∷ ls) = rw (e ∙ f) at p in
+      let q : IsDescendingWalk longest places k (((no_children, l.0.1), l.1) ∷ ls) = rw (e ∙ f) at p in
       rw (i, e ∙ f) (leave-at g longest places l.0.1 k l.1 ls q)
 
-  pub leave : (g : Grown) (longest places places1 : ℕ) (k k1 : SegmentList) (st st1 rest : List (BackLevel V))
-      (l : BackLevel V) → IsBackWalk longest places k (reverse st) → BackLeft st st1 → st1 ≡ rest ++ l ∷ []
+  pub leave : (g : Grown) (longest places places1 : ℕ) (k k1 : SegmentList) (st st1 rest : List (DescendingLevel V))
+      (l : DescendingLevel V) → IsDescendingWalk longest places k (reverse st) → DescendingLeft st st1
+      → st1 ≡ rest ++ l ∷ []
       → k1 ≡ take l.0.1 k → places1 ≡ places
-      → BackLeave g longest places1 k k1 (reverse st) (reverse rest) (option_copied l.1)
+      → DescendingLeave g longest places1 k k1 (reverse st) (reverse rest) (option_copied l.1)
   leave g longest places places1 k k1 st st1 rest l p s e i f =
       let h = left-level st st1 rest l s e in
-      let q : IsBackWalk longest places k (l ∷ reverse rest) = rw h.0 at p in
+      let q : IsDescendingWalk longest places k (l ∷ reverse rest) = rw h.0 at p in
       rw (f, h.0) (leave-one g longest places k k1 l no_children (reverse rest) q h.1 refl i)

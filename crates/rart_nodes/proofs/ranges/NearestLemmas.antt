@@ -164,14 +164,14 @@ module _ {V : Type 0} where
 
   pub toward-child : (e : End) (h : Bool) (s : List ℕ) (t : Trie V) (v : Option V) (b : Option ℕ) (n : Option (Trie V))
       (r : List ℕ) → StepsToward e h s t v b n r → IsChildOf t n
-  toward-child First h s t v b n r w = step-child _ _ _ h s t v b n r w
-  toward-child Last h s t v b n r w = step-child _ _ _ h s t v b n r w
+  toward-child First h s t v b n r w = step-child h s t v b n r w
+  toward-child Last h s t v b n r w = step-child h s t v b n r w
 
   pub toward-visits : (e : End) (h : Bool) (s : List ℕ) (t : Trie V) (v : Option V) (b : Option ℕ)
       (n : Option (Trie V)) (r : List ℕ) → is_canonical t ≡ true → StepsToward e h s t v b n r
       → entered_nodes s t ≡ 1 + tree_entered r n
-  toward-visits First h s t v b n r c w = step-visits _ _ _ h s t v b n r c w
-  toward-visits Last h s t v b n r c w = step-visits _ _ _ h s t v b n r c w
+  toward-visits First h s t v b n r c w = step-visits h s t v b n r c w
+  toward-visits Last h s t v b n r c w = step-visits h s t v b n r c w
 
   -- A descent to s over the pairs es is at the node t, where r remains of s. The nearest pair that it passed is
   -- `found`.

@@ -27,8 +27,8 @@ use Rattle.rart_trie.proofs.tries.FirstBytes.{pairs_of-first}
 use Rattle.rart_trie.proofs.tries.NodeCounts.{some-pairs}
 use Rattle.rart_trie.proofs.tries.ProbeLemmas.{entered_nodes-probe_count, few-entered_nodes}
 use Rattle.rart_trie.proofs.tries.StepLemmas.{step-on}
-use Rattle.rart_nodes.specs.declared.node.walk.nearest.Place.{Place}
-use Rattle.rart_nodes.specs.declared.node.walk.nearest.Place.TheVariants.{Own, Below}
+use Rattle.rart_nodes.specs.declared.node.path_walk.nearest.Place.{Place}
+use Rattle.rart_nodes.specs.declared.node.path_walk.nearest.Place.TheVariants.{Own, Below}
 use Rattle.rart_nodes.specs.ranges.Nearest.{pairs_toward, place_pair}
 use Rattle.rart_nodes.specs.tries.KeysAfter.{after_bytes}
 use Rattle.rart_nodes.proofs.ranges.NearestLemmas.{last-or}

@@ -2,9 +2,9 @@
 use Rattle.std.proofs.Common.{◌≡◌, ℕ, List, Option, Some, None, Result, Ok, Err, [], ◌∷◌, subst, ◌∙◌}
 use Rattle.std.specs.Borrow.{Bor}
 use Rattle.std.specs.Fn.{Mut, Once, always_mut}
-use Rattle.rart_nodes.specs.declared.node.walks.control.VisitControl.{VisitControl}
-use Rattle.rart_nodes.specs.declared.node.walks.control.VisitControl.TheVariants.{Continue, Stop}
-use Rattle.rart_nodes.specs.declared.node.walk.path.SegmentPath.{SegmentPath}
+use Rattle.rart_nodes.specs.declared.node.control.VisitControl.{VisitControl}
+use Rattle.rart_nodes.specs.declared.node.control.VisitControl.TheVariants.{Continue, Stop}
+use Rattle.rart_nodes.specs.declared.node.path_walk.path.SegmentPath.{SegmentPath}
 use Rattle.rart_nodes.specs.declared.node.view.LendingKeyView.{LendingKeyView}
 use Rattle.rart_nodes.specs.walks.Matched.{MatchesEach}
 use Rattle.rart_trie.specs.walks.Walk.{SegmentList}

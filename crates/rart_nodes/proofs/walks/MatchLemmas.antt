@@ -1,9 +1,18 @@
 -- A descent that collects what it passes gives the pairs whose key begins the string.
-use Rattle.std.proofs.Common.{◌≡◌, ℕ, ◌+◌, ◌-◌, ◌≤◌, ◌==◌, Bool, true, false, List, [], ◌∷◌, ◌++◌, length}
+use Rattle.std.proofs.Common.{◌≡◌, ℕ, ◌+◌, ◌-◌, ◌≤◌, ◌<◌, ◌==◌, Bool, true, false, List, [], ◌∷◌, ◌++◌, length}
 use Rattle.std.proofs.Common.{length-append, take, drop, refl, sym, ap, subst, ◌∙◌, arith, Option, Some, None, is_some}
-use Rattle.std.proofs.Common.{if◌then◌else◌}
+use Rattle.std.proofs.Common.{if◌then◌else◌, suc, zero}
 use Rattle.std.specs.Prelude.{slice_get, IfSome, MatchOption}
-use Rattle.std.proofs.lemmas.List.{append-nil, append_assoc, length-drop, take-append-drop, take-append-le, take_all}
+use Rattle.std.proofs.lemmas.List.{
+  append-nil,
+  append_assoc,
+  drop-take,
+  length-drop,
+  length-take-le,
+  take-append-drop,
+  take-append-le,
+  take_all,
+}
 use Rattle.std.proofs.Math.Seq.{drop-append_seam}
 use Rattle.rart_keys.specs.ByteStrings.{strip_prefix, begins}
 use Rattle.rart_keys.specs.Filters.{last_or, longest_match, matches}
@@ -12,9 +21,12 @@ use Rattle.rart_keys.proofs.strings.ByteOrder.{eq-no}
 use Rattle.rart_trie.specs.tries.PrefixLaws.{prefix-none, prefix-twice}
 use Rattle.rart_trie.specs.tries.CanonicalTest.{is_canonical}
 use Rattle.rart_trie.specs.tries.Tree.{tree_pairs, IsCanonicalTree}
-use Rattle.rart_trie.specs.tries.Trie.{Trie, node, children_pairs, own_pair, prefix_of, child_in, with_prefix}
-use Rattle.rart_nodes.specs.walks.Matches.{Passes, pair_at, collects, tree_matches, matches_ahead, entered_ahead}
+use Rattle.rart_trie.specs.tries.Trie.{AreCanonical, Children, StartsWith, Trie, child, child_in, child_of}
+use Rattle.rart_trie.specs.tries.Trie.{children_pairs, no_children, node, own_pair, prefix_of, with_prefix}
+use Rattle.rart_nodes.specs.walks.Matches.{Descends, DescendsPast, Passes, collects, entered_ahead, least_bytes}
+use Rattle.rart_nodes.specs.walks.Matches.{matches_ahead, pair_at, tree_matches}
 use Rattle.rart_trie.specs.walks.ProbeCount.{probe_count, counts, tree_entered}
+use Rattle.rart_trie.proofs.tries.CanonicalTests.{IsCanonical-test}
 use Rattle.rart_trie.proofs.tries.Descents.{Keeps, children-filter, descend-ended, descend-on, descends}
 use Rattle.rart_trie.proofs.tries.PrefixedStrings.{strip_prefix-is}
 use Rattle.rart_trie.proofs.tries.FirstBytes.{AllFrom, children_pairs-from}
@@ -33,6 +45,7 @@ begins-append (x ∷ p) l (y ∷ q) = elim (x == y) as (λ b. is_some (if b then
 -- where a string is read on after d bytes and the prefix p, and r is left
 pub record SplitAt (p q r : List ℕ) (d d1 : ℕ) : Type 0 where
   pub within : d1 ≤ length q
+  pub longer : d1 ≡ d + length p
   pub front : take d1 q ≡ take d q ++ p
   pub after : drop d1 q ≡ r
 
@@ -45,10 +58,43 @@ split-at p q k r d d1 l i e f =
     let n : d1 ≡ length a = omega (arith, f, ap length whole, length-append a r) in
     record {
       within = omega arith;
+      longer = omega (arith, n, length-append (take d q) p, length-take-le d q l);
       front = ap (take d1) whole ∙ ap (λ m. take m (a ++ r)) n ∙ take-append-le (length a) a r (omega arith)
           ∙ take_all (length a) a (omega arith);
       after = ap (drop d1) whole ∙ ap (λ m. drop m (a ++ r)) n ∙ drop-append_seam a r;
     }
+
+-- of fewer bytes as much is left as there are of them
+strip-cut : (p k r : List ℕ) (m : ℕ) → Some r ≡ strip_prefix p k
+    → Some (take m r) ≡ strip_prefix p (take (length p + m) k)
+strip-cut [] k r m e =
+    let i : r ≡ k = cc in
+    let n : length {A = ℕ} [] + m ≡ m = omega arith in
+    rw (n, i) refl
+strip-cut (x ∷ p) [] r m e = absurd (cc)
+strip-cut (x ∷ p) (y ∷ k) r m e =
+    let n : length (x ∷ p) + m ≡ suc (length p + m) = omega arith in
+    rw n (elim (x == y) as (λ b. Some r ≡ (if b then strip_prefix p k else None)
+    → Some (take m r) ≡ (if b then strip_prefix p (take (length p + m) k) else None)) [
+      | true ↦ strip-cut p k r m
+      | false ↦ λ h. absurd (cc)
+    ] e)
+
+cut-after : (p q k : List ℕ) (d d1 m : ℕ) → k ≡ drop d q → d1 ≡ d + length p
+    → drop d (take (d1 + m) q) ≡ take (length p + m) k
+cut-after p q k d d1 m i e =
+    let n : d1 + m ≡ d + (length p + m) = omega (arith, e) in
+    ap (λ z. drop d (take z q)) n ∙ drop-take d (length p + m) q ∙ ap (take (length p + m)) (sym i)
+
+nothing-cut : (m : ℕ) (r : List ℕ) → None ≡ slice_get r 0 → None ≡ slice_get (take m r) 0
+nothing-cut zero r h = refl
+nothing-cut (suc m) [] h = refl
+nothing-cut (suc m) (x ∷ r) h = h
+
+first-cut : (m : ℕ) (r : List ℕ) (b : ℕ) → 0 < m → Some b ≡ slice_get r 0 → Some b ≡ slice_get (take m r) 0
+first-cut zero r b more h = absurd (omega (arith, more))
+first-cut (suc m) [] b more h = h
+first-cut (suc m) (x ∷ r) b more h = h
 
 pub rest-fits : (p q k r : List ℕ) (d : ℕ) → k ≡ drop d q → Some r ≡ strip_prefix p k → length r ≤ length q
 rest-fits p q k r d i e = omega (
@@ -105,6 +151,53 @@ module _ {V : Type 0} where
   prefix-own q None es = refl
   prefix-own q (Some v) es = ap (λ k. (k, v) ∷ with_prefix q es) (append-nil q)
 
+  not-shorter : (p : List ℕ) (v : Option V) (n : ℕ) (cs : Children V) (d d1 : ℕ) → d1 ≡ d + length p
+      → d + least_bytes (Some (node p v n cs)) ≤ d1
+  not-shorter [] v n cs d d1 e = omega (arith, e)
+  not-shorter (b ∷ p) v n cs d d1 e = omega (arith, e)
+
+  first-nonempty : (b : ℕ) (t : Trie V) → StartsWith b (prefix_of t) → least_bytes (Some t) ≡ 1
+  first-nonempty b (node [] v n cs) s = absurd s
+  first-nonempty b (node (x ∷ p) v n cs) s = refl
+
+  child-nonempty : (b low : ℕ) (cs : Children V) → AreCanonical low cs → least_bytes (child_of b cs) ≡ 1
+  child-nonempty b low no_children w = refl
+  child-nonempty b low (child c t cs) w = elim (c == b)
+      as (λ x. least_bytes (if x then Some t else child_of b cs) ≡ 1) [
+        | true ↦ first-nonempty c t w.1
+        | false ↦ child-nonempty b (suc c) cs w.3
+      ]
+
+  -- A descent along q at the node t after d bytes, where r is left after its prefix, at d1. One along fewer bytes of q
+  -- ends there, after d1 bytes,
+  ended-here : (t : Trie V) (q k r : List ℕ) (d d1 : ℕ) → d ≤ length q → k ≡ drop d q
+      → Some r ≡ strip_prefix (prefix_of t) k → d1 ≡ length q - length r → entered_ahead (take d1 q) d (Some t) ≡ 1
+  ended-here (node p v n cs) q k r d d1 l i e f =
+      let s = split-at p q k r d d1 l i e f in
+      let z : d1 ≡ d1 + 0 = omega arith in
+      rw (z, cut-after p q k d d1 0 i s.longer)
+      (descend-ended counts (node p v n cs) (take (length p + 0) k) [] (strip-cut p k r 0 e) refl)
+
+  -- or, if q ends there, also after more bytes,
+  cut-ended : (t : Trie V) (q k r : List ℕ) (d d1 m : ℕ) → d ≤ length q → k ≡ drop d q
+      → Some r ≡ strip_prefix (prefix_of t) k → d1 ≡ length q - length r → None ≡ slice_get r 0
+      → entered_ahead (take (d1 + m) q) d (Some t) ≡ 1
+  cut-ended (node p v n cs) q k r d d1 m l i e f h =
+      let s = split-at p q k r d d1 l i e f in
+      rw (cut-after p q k d d1 m i s.longer) (descend-ended counts (node p v n cs) (take (length p + m) k) (take m r)
+      (strip-cut p k r m e) (nothing-cut m r h))
+
+  -- or goes on to the same child
+  cut-on : (t : Trie V) (q k r : List ℕ) (b d d1 m : ℕ) (o : Option (Trie V)) → is_canonical t ≡ true → d ≤ length q
+      → k ≡ drop d q → Some r ≡ strip_prefix (prefix_of t) k → d1 ≡ length q - length r → Some b ≡ slice_get r 0
+      → o ≡ child_in b t → 0 < m
+      → entered_ahead (take (d1 + m) q) d (Some t) ≡ 1 + entered_ahead (take (d1 + m) q) d1 o
+  cut-on (node p v n cs) q k r b d d1 m o c l i e f h j more =
+      let s = split-at p q k r d d1 l i e f in
+      let after : drop d1 (take (d1 + m) q) ≡ take m r = drop-take d1 m q ∙ ap (take m) s.after in
+      rw (cut-after p q k d d1 m i s.longer, after, j) (descend-on counts (node p v n cs) (take (length p + m) k)
+      (take m r) b c (strip-cut p k r m e) (first-cut m r b more h))
+
   -- a descent along q at the node t after d bytes: q ends after its prefix
   pub pass-ended : (t : Trie V) (q k r : List ℕ) (d d1 : ℕ) → d ≤ length q → k ≡ drop d q
       → Some r ≡ strip_prefix (prefix_of t) k → d1 ≡ length q - length r → None ≡ slice_get r 0 → Passes q d t d1 None
@@ -117,6 +210,12 @@ module _ {V : Type 0} where
             ∙ ap (with_prefix (take d1 q)) (sym (append-nil (own_pair v))) ∙ prefix-own (take d1 q) v [];
         counted = rw (← i) (descend-ended counts (node p v n cs) k r e h);
         falls = omega arith;
+        past = λ i1. record {
+          deeper = not-shorter p v n cs d d1 s.longer;
+          nonempty = refl;
+          here = omega (arith, ended-here (node p v n cs) q k r d d1 l i e f);
+          onward = λ m h1. omega (arith, cut-ended (node p v n cs) q k r d d1 m l i e f h);
+        };
       }
 
   -- or continues by b
@@ -136,6 +235,13 @@ module _ {V : Type 0} where
         counted = rw (← i) (descend-on counts (node p v n cs) k r b c e h ∙ ap (λ z. 1 + tree_entered r z) (sym j)
             ∙ ap (λ z. 1 + tree_entered z o) (sym s.after));
         falls = child-falls b (node p v n cs) o (sym j);
+        past = λ i1. record {
+          deeper = not-shorter p v n cs d d1 s.longer;
+          nonempty = subst (λ z. least_bytes z ≡ 1) (sym j)
+              (child-nonempty b 0 cs (IsCanonical-test (node p v n cs) c).2);
+          here = omega (arith, ended-here (node p v n cs) q k r d d1 l i e f);
+          onward = λ m h1. omega (arith, cut-on (node p v n cs) q k r b d d1 m o c l i e f h j h1);
+        };
       }
 
   -- or leaves the string at t
@@ -167,6 +273,42 @@ module _ {V : Type 0} where
       let count = tree_entered-probe_count q root w in
       let few = few-tree_entered q root w in
       (omega (arith, h, k, count), omega (arith, h, k, few))
+
+  pub not-moved : {q : List ℕ} {d n : ℕ} {o : Option (Trie V)} → Descends q d o n d o n
+  not-moved = record { deeper = omega arith; onward = λ m h. refl }
+
+  pub moved-past : {q : List ℕ} {d n d1 n1 : ℕ} {o o1 : Option (Trie V)} → DescendsPast q d o n d1 o1 n1
+      → Descends q d o n d1 o1 n1
+  moved-past p = record {
+    deeper = omega (arith, p.deeper, p.nonempty);
+    onward = λ m h. p.onward m (omega (arith, h, p.nonempty));
+  }
+
+  -- a descent that continues past a node
+  pub past-next : {q : List ℕ} {d n d1 n1 d2 n2 : ℕ} {o o1 o2 : Option (Trie V)} → Descends q d o n d1 o1 n1
+      → DescendsPast q d1 o1 n1 d2 o2 n2 → DescendsPast q d o n d2 o2 n2
+  past-next {q} {d} {n} {d1} {n1} {d2} {n2} {o} {o1} a b =
+      let on : (m : ℕ) → n1 + entered_ahead (take (d2 + m) q) d1 o1 ≡ n + entered_ahead (take (d2 + m) q) d o
+      = λ m. let e : d1 + (d2 - d1 + m) ≡ d2 + m = omega (arith, b.deeper) in
+      subst (λ z. n1 + entered_ahead (take z q) d1 o1 ≡ n + entered_ahead (take z q) d o) e
+      (a.onward (d2 - d1 + m) (omega (arith, b.deeper))) in
+      let z : d2 + 0 ≡ d2 = omega arith in
+      record {
+        deeper = omega (arith, a.deeper, b.deeper);
+        nonempty = b.nonempty;
+        here = b.here ∙ subst (λ x. n1 + entered_ahead (take x q) d1 o1 ≡ n + entered_ahead (take x q) d o) z (on 0);
+        onward = λ m h. b.onward m h ∙ on m;
+      }
+
+  -- it is before the node t, enters it, and passes it
+  pub past-node : {q : List ℕ} {d n d1 n1 d2 n2 : ℕ} {o o1 o2 : Option (Trie V)} {t : Trie V}
+      → Descends q d o n d1 o1 n1 → o1 ≡ Some t → Passes q d1 t d2 o2 → n2 ≡ n1 + 1 → DescendsPast q d o n d2 o2 n2
+  past-node {q} {d1 = d1} {n1} {d2} {o2 = o2} a e p f = past-next a (rw (e, f) (p.past n1))
+
+  -- a descent from the top, past a node that ends after d1 bytes, entered the nodes that the keys say of these bytes
+  pub entered-to : {q : List ℕ} {n d1 n1 : ℕ} {root o1 : Option (Trie V)} → IsCanonicalTree root
+      → DescendsPast q 0 root n d1 o1 n1 → n1 ≡ n + probe_count (keys_of (tree_pairs root)) (take d1 q)
+  entered-to {q} {n} {d1} {n1} {root} w p = p.here ∙ ap (λ z. n + z) (tree_entered-probe_count (take d1 q) root w)
 
   pub entered-ahead : (q : List ℕ) (d : ℕ) (o root : Option (Trie V)) → d ≡ 0 → o ≡ root
       → entered_ahead q d o ≡ tree_entered q root

@@ -87,9 +87,10 @@ module _ {W : Type 0} (took : W → List ℕ → W → Type 0) where
         → IsWrittenTo level t (children_in t) f g
     written-start level (node p v n cs) f g s = record { done = node_line shown level p v n; whole = refl; shows = s }
 
-    pub written-child : (level b : ℕ) (t u : Trie V) (cs ds : Children V) (f g h : Formatter W) → cs ≡ child b u ds
+    pub written-child : (level b : ℕ) (t : Trie V) {u : Trie V} {cs ds : Children V} {f g h : Formatter W}
+        → cs ≡ child b u ds
         → IsWrittenTo level t cs f g → Shows g (outline_below shown (suc level) u) h → IsWrittenTo level t ds f h
-    written-child level b t u cs ds f g h e w s = record {
+    written-child level b t {u} {ds} {f} {g} {h} e w s = record {
       done = w.done ++? outline_below shown (suc level) u;
       whole = w.whole ∙ ap (λ z. w.done ++? children_outline shown (suc level) z) e
           ∙ sym (then-assoc w.done (outline_below shown (suc level) u) (children_outline shown (suc level) ds));

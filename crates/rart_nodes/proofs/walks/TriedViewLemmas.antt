@@ -7,8 +7,8 @@ use Rattle.rart_trie.specs.ranges.Starts.{entries_to}
 use Rattle.rart_trie.specs.walks.Walk.{SegmentList}
 use Rattle.rart_trie.proofs.edits.CallbackLemmas.{always-on}
 use Rattle.rart_nodes.specs.declared.node.view.LendingKeyView.{LendingKeyView}
-use Rattle.rart_nodes.specs.declared.node.walks.control.VisitControl.{VisitControl}
-use Rattle.rart_nodes.specs.declared.node.walks.control.VisitControl.TheVariants.{Continue, Stop}
+use Rattle.rart_nodes.specs.declared.node.control.VisitControl.{VisitControl}
+use Rattle.rart_nodes.specs.declared.node.control.VisitControl.TheVariants.{Continue, Stop}
 use Rattle.rart_nodes.specs.walks.Tried.{ContinuesAs, CountsCall}
 use Rattle.rart_nodes.specs.walks.TriedViews.{EndsAfterBy, EndsBy, EndsViews, ViewedAs}
 

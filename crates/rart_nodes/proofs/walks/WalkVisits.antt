@@ -25,10 +25,10 @@ module _ {V : Type 0} where
   HasVisited n m k ls = (m ≡ n) ⊎ ((m ≤ n + length k) × IsFresh k ls)
 
   -- a child of the deepest level is visited
-  pub visit-one : (g : Grown) (longest places n m m1 d : ℕ) (k k1 : SegmentList) (t : Trie V) (st st1 : List (Level V))
+  pub visit-one : (g : Grown) {longest places n m m1 d : ℕ} {k k1 : SegmentList} (t : Trie V) {st st1 : List (Level V)}
       → KeepsEach g → IsWalk longest places k (reverse st) → HasVisited n m k (reverse st)
       → DeepestStep st t d st1 → k1 ≡ take d k ++ g (prefix_of t) → m1 ≡ m + 1 → m1 ≤ n + length k1
-  visit-one g longest places n m m1 d k k1 t st st1 bytes p h s i f =
+  visit-one g {longest} {places} {n} {m} {d} {k} {k1} t {st} {st1} bytes p h s i f =
       let more = child-longer g longest places d k k1 t s.others (reverse s.rest) bytes
       (next-child longest places d k t st st1 p s) i in
       let v : HasVisited n m k ((child s.edge t s.others, d) ∷ reverse s.rest) = rw (level-before d t st st1 s) at h in

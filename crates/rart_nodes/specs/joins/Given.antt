@@ -7,7 +7,7 @@ use Rattle.std.specs.List.{FoldsTo}
 use Rattle.rart_keys.specs.KeyBytes.{IsWithin}
 use Rattle.rart_keys.specs.SortedMap.{values_of}
 use Rattle.rart_nodes.specs.declared.node.intersect.join_path.JoinPath.TheVariants.{Nothing, Bytes, Segments}
-use Rattle.rart_nodes.specs.declared.node.walks.control.VisitControl.{VisitControl}
+use Rattle.rart_nodes.specs.declared.node.control.VisitControl.{VisitControl}
 use Rattle.rart_nodes.specs.joins.JoinPaths.{Kept, PathReserved, PathGrown}
 use Rattle.rart_nodes.specs.joins.TriedPairs.{TriesEach}
 use Rattle.rart_trie.specs.tries.Trie.{with_prefix}
@@ -82,6 +82,11 @@ abbrev pub GivenTried : {F X E : Type 0} → (F → List ℕ × X → Result Vis
 GivenTried R Nothing f es r g = Unit {0}
 GivenTried R (Bytes k) f es r g = TriesEach R f (with_prefix k.items es) r g
 GivenTried R (Segments k) f es r g = Unit {0}
+
+-- a walk that its first pair ends
+abbrev pub GivenFirst : {F X : Type 0} → Kept → F → List (List ℕ × X) → Result (Unit {0}) (Unit {0}) → F → Type 0
+GivenFirst s f [] r g = (r ≡ Ok tt) × (f ≡ g)
+GivenFirst s f (e ∷ es) r g = (r ≡ Err tt) × (f ≡ g)
 
 abbrev pub CanGiveKeys : {F X : Type 0} → (F → List ℕ × X → Type 0) → Kept → F → List ℕ × X → Type 0
 CanGiveKeys q Nothing f x = Unit {0}

@@ -3,10 +3,10 @@ use Rattle.std.specs.Prelude.{ℕ, ◌≡◌, ◌≢◌, List, [], ◌∷◌, Re
 use Rattle.std.specs.Borrow.{Bor}
 use Rattle.std.specs.Fn.{Mut, Called, Takes}
 use Rattle.rart_trie.specs.walks.Calls.{CallableAtEach}
-use Rattle.rart_nodes.specs.declared.node.walks.control.VisitControl.{VisitControl}
-use Rattle.rart_nodes.specs.declared.node.walks.control.VisitControl.TheVariants.{Continue, Stop}
-use Rattle.rart_nodes.specs.declared.node.walks.control.VisitError.{VisitError}
-use Rattle.rart_nodes.specs.declared.node.walks.control.VisitError.TheVariants.{Memory}
+use Rattle.rart_nodes.specs.declared.node.control.VisitControl.{VisitControl}
+use Rattle.rart_nodes.specs.declared.node.control.VisitControl.TheVariants.{Continue, Stop}
+use Rattle.rart_nodes.specs.declared.node.control.VisitError.{VisitError}
+use Rattle.rart_nodes.specs.declared.node.control.VisitError.TheVariants.{Memory}
 use Rattle.rart_nodes.specs.walks.TriedViews.{EndsVisitBy}
 
 -- how a walk continues or ends after an answer, as `more` continues it: an `Err` says that it ended, and with what

@@ -8,6 +8,7 @@ pub use Rattle.rart_nodes.specs.joins.Given.{
   CanGiveValues,
   CanGiveViews,
   CountedOn,
+  GivenFirst,
   GivenKeys,
   GivenTried,
   GivenValues,
@@ -29,8 +30,8 @@ use Rattle.std.specs.List.{FoldsTo}
 use Rattle.rart_keys.specs.KeyBytes.{IsWithin}
 use Rattle.rart_keys.specs.SortedMap.{values_of}
 use Rattle.rart_nodes.specs.declared.node.intersect.join_path.JoinPath.TheVariants.{Nothing, Bytes, Segments}
-use Rattle.rart_nodes.specs.declared.node.walks.control.VisitControl.{VisitControl}
-use Rattle.rart_nodes.specs.declared.node.walks.control.VisitControl.TheVariants.{Continue, Stop}
+use Rattle.rart_nodes.specs.declared.node.control.VisitControl.{VisitControl}
+use Rattle.rart_nodes.specs.declared.node.control.VisitControl.TheVariants.{Continue, Stop}
 use Rattle.rart_nodes.specs.joins.JoinPaths.{Kept, PathReserved, PathGrown, BytesGrown, SegmentsGrown}
 use Rattle.rart_nodes.specs.joins.TriedPairs.{TriedOn, TriesEach}
 use Rattle.rart_trie.specs.tries.PrefixLaws.{prefix-append, prefix-twice, values-append, values-with_prefix}
@@ -249,6 +250,32 @@ module _ {F X E : Type 0} (R : F → List ℕ × X → Result VisitControl E →
     gives_end = tried-ends;
     gives_after = tried-after;
   }
+
+first-more : {F X : Type 0} (s : Kept) (f g h : F) (xs ys : List (List ℕ × X)) (r : Result (Unit {0}) (Unit {0}))
+    → GivenFirst s f xs (Ok tt) g → GivenFirst s g ys r h → GivenFirst s f (xs ++ ys) r h
+first-more s f g h [] ys r a b = rw a.1 b
+first-more s f g h (x ∷ xs) ys r a b = absurd (err-ok tt tt (sym a.0))
+
+first-end : {F X : Type 0} (s : Kept) (f g : F) (xs ys : List (List ℕ × X)) (b : Unit {0})
+    → GivenFirst s f xs (Err b) g → GivenFirst s f (xs ++ ys) (Err b) g
+first-end s f g [] ys b a = absurd (err-ok tt b a.0)
+first-end s f g (x ∷ xs) ys b a = a
+
+first-after : {F X : Type 0} (s t : Kept) (p : List ℕ) (f g : F) (es : List (List ℕ × X))
+    (r : Result (Unit {0}) (Unit {0})) → PathGrown s p t → GivenFirst t f es r g
+    → GivenFirst s f (with_prefix p es) r g
+first-after s t p f g [] r w b = b
+first-after s t p f g (e ∷ es) r w b = b
+
+pub give_first : {F X : Type 0} → AreVisitors {F = F} {X = X} PathReserved GivenFirst
+give_first = record {
+  holds = λ s n h. h;
+  keeps_reserved = path-reserved;
+  gives_none = λ s f. (refl, refl);
+  gives_more = first-more;
+  gives_end = first-end;
+  gives_after = first-after;
+}
 
 views-hold : (s : Kept) (n : ℕ) → ViewsReserved s n → PathReserved s n
 views-hold Nothing n h = absurd h

@@ -4,9 +4,9 @@ use Rattle.std.specs.declared.cmp.Ordering.{Ordering}
 use Rattle.std.specs.declared.cmp.Ordering.TheVariants.{Less, Greater}
 use Rattle.rart_keys.specs.Ranges.{pairs_from}
 use Rattle.rart_keys.specs.declared.partials.Partial.{Ghosts}
-use Rattle.rart_nodes.specs.declared.node.walk.nearest.Nearest.{Nearest}
-use Rattle.rart_nodes.specs.declared.node.walk.nearest.Place.{Place}
-use Rattle.rart_nodes.specs.declared.node.walk.nearest.Place.TheVariants.{Own, Below}
+use Rattle.rart_nodes.specs.declared.node.path_walk.nearest.Nearest.{Nearest}
+use Rattle.rart_nodes.specs.declared.node.path_walk.nearest.Place.{Place}
+use Rattle.rart_nodes.specs.declared.node.path_walk.nearest.Place.TheVariants.{Own, Below}
 use Rattle.rart_nodes.specs.ranges.Steps.{StepsFrom, StepsUntil, children_after}
 use Rattle.rart_nodes.specs.ranges.UpperBounds.{pairs_until}
 use Rattle.rart_nodes.specs.tries.KeysAfter.{after_bytes}

@@ -1,7 +1,7 @@
 -- The bytes that a buffer holds, and how many of them are allocated.
 use Rattle.std.specs.Prelude.{ℕ, List, vec_capacity}
-use Rattle.rart_nodes.specs.declared.node.walk.path.key_buffer.KeyBuffer.{KeyBuffer}
-use Rattle.rart_nodes.specs.declared.node.walk.path.key_buffer.KeyBuffer.TheVariants as buffer
+use Rattle.rart_nodes.specs.declared.node.path_walk.path.key_buffer.KeyBuffer.{KeyBuffer}
+use Rattle.rart_nodes.specs.declared.node.path_walk.path.key_buffer.KeyBuffer.TheVariants as buffer
 
 abbrev pub bytes_in : KeyBuffer → List ℕ
 bytes_in (buffer.Inline bytes) = bytes

@@ -3,8 +3,8 @@ use Rattle.std.specs.Prelude.{ℕ, List, [], ◌∷◌, ◌++◌, map, take, Opt
 use Rattle.std.specs.Borrow.{Bor}
 use Rattle.std.specs.Option.{option_copied}
 use Rattle.std.proofs.Common.{arith}
-use Rattle.rart_nodes.specs.declared.node.walk.Walk.{Walk}
-use Rattle.rart_nodes.specs.declared.node.walk.path.BytePath.{BytePath}
+use Rattle.rart_nodes.specs.declared.node.path_walk.ascending.Walk.{Walk}
+use Rattle.rart_nodes.specs.declared.node.path_walk.path.BytePath.{BytePath}
 use Rattle.rart_nodes.specs.walks.KeyBuffers.{bytes_in}
 use Rattle.rart_trie.specs.walks.Walk.{Grown, IsShort, Level, SegmentList, entry_values, entries_ahead}
 

@@ -3,10 +3,10 @@ use Rattle.std.specs.Prelude.{ℕ, ◌≡◌, ◌≢◌, ◌+◌, List, [], ◌�
 use Rattle.std.specs.Borrow.{Bor}
 use Rattle.std.specs.Fn.{Mut, Called, CalledAt, TakesAt}
 use Rattle.rart_trie.specs.walks.Calls.{CallableAtEach}
-use Rattle.rart_nodes.specs.declared.node.walks.control.VisitControl.{VisitControl}
-use Rattle.rart_nodes.specs.declared.node.walks.control.VisitControl.TheVariants.{Continue, Stop}
-use Rattle.rart_nodes.specs.declared.node.walks.control.VisitError.{VisitError}
-use Rattle.rart_nodes.specs.declared.node.walks.control.VisitError.TheVariants.{Callback, Memory}
+use Rattle.rart_nodes.specs.declared.node.control.VisitControl.{VisitControl}
+use Rattle.rart_nodes.specs.declared.node.control.VisitControl.TheVariants.{Continue, Stop}
+use Rattle.rart_nodes.specs.declared.node.control.VisitError.{VisitError}
+use Rattle.rart_nodes.specs.declared.node.control.VisitError.TheVariants.{Callback, Memory}
 
 -- f may be called with each value in turn, for as long as each call has said that the walk continues
 abbrev pub CanTry : {F V E : Type 0} → Mut F (Bor V × Unit {0}) (Result VisitControl E) → F → List V → Type 0

@@ -5,10 +5,10 @@ use Rattle.std.specs.Fn.{Mut, Called, Takes}
 use Rattle.rart_trie.specs.walks.Calls.{CallableAtEach}
 use Rattle.rart_trie.specs.walks.Walk.{SegmentList}
 use Rattle.rart_nodes.specs.declared.node.view.LendingKeyView.{LendingKeyView}
-use Rattle.rart_nodes.specs.declared.node.walks.control.VisitControl.{VisitControl}
-use Rattle.rart_nodes.specs.declared.node.walks.control.VisitControl.TheVariants.{Continue}
-use Rattle.rart_nodes.specs.declared.node.walks.control.VisitError.{VisitError}
-use Rattle.rart_nodes.specs.declared.node.walks.control.VisitError.TheVariants.{Callback, Memory}
+use Rattle.rart_nodes.specs.declared.node.control.VisitControl.{VisitControl}
+use Rattle.rart_nodes.specs.declared.node.control.VisitControl.TheVariants.{Continue}
+use Rattle.rart_nodes.specs.declared.node.control.VisitError.{VisitError}
+use Rattle.rart_nodes.specs.declared.node.control.VisitError.TheVariants.{Callback, Memory}
 use Rattle.rart_nodes.specs.walks.KeyViews.{view_segments}
 use Rattle.rart_nodes.specs.walks.Tried.{ContinuesAs, CountsCall}
 

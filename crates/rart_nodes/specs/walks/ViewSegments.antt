@@ -2,7 +2,7 @@
 use Rattle.std.specs.Prelude.{ℕ, ◌≡◌, ◌<◌, ◌^◌, Bool, true, false, ◌&&◌, List, [], ◌∷◌, length, Option}
 use Rattle.std.specs.Borrow.{Bor}
 use Rattle.std.specs.Option.{option_copied}
-use Rattle.rart_nodes.specs.declared.node.walk.Walk.{Walk}
+use Rattle.rart_nodes.specs.declared.node.path_walk.ascending.Walk.{Walk}
 use Rattle.rart_trie.specs.walks.Walk.{Level, SegmentList, joined_bytes, entries_ahead}
 use Rattle.rart_nodes.specs.walks.PathParts.{lent_segments, one_segment}
 

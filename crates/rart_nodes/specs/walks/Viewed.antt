@@ -8,7 +8,7 @@ use Rattle.rart_trie.specs.walks.Cut.{cut}
 use Rattle.rart_nodes.specs.walks.KeyViews.{view_segments}
 use Rattle.rart_trie.specs.walks.Walk.{SegmentList}
 use Rattle.rart_nodes.specs.walks.PathParts.{lent_segments}
-use Rattle.rart_nodes.specs.declared.node.walk.path.SegmentPath.{SegmentPath}
+use Rattle.rart_nodes.specs.declared.node.path_walk.path.SegmentPath.{SegmentPath}
 use Rattle.rart_nodes.specs.declared.node.view.LendingKeyView.{LendingKeyView}
 
 -- f was called with a view of the segments of x and with its value, and is then f'

@@ -3,7 +3,7 @@ use Rattle.std.specs.Prelude.{ℕ, ◌≡◌, ◌≢◌, ◌+◌, ◌⊎◌, Lis
 use Rattle.std.specs.Borrow.{Bor}
 use Rattle.std.specs.Global.{Vec}
 use Rattle.std.specs.Option.{option_copied}
-use Rattle.rart_nodes.specs.declared.node.walk.Walk.{Walk}
+use Rattle.rart_nodes.specs.declared.node.path_walk.ascending.Walk.{Walk}
 use Rattle.rart_trie.specs.tries.Trie.{Trie, Children, no_children, child, children_in}
 use Rattle.rart_trie.specs.walks.Walk.{Grown, IsWalk, Level, SegmentList, entries_ahead, nodes_below}
 

@@ -12,16 +12,18 @@ ghost use Rattle.rart_nodes.specs.tries.SeenTrees.{seen_keys, seen_pairs, seen_t
 ghost use Rattle.rart_trie.specs.walks.ProbeCount.{VisitsAtMost, probe_count};
 ghost use Rattle.rart_trie.specs.walks.Calls.{MayLackMemory};
 
+pub use crate::node::calls::matching::PrefixMatchIter;
+pub use crate::node::iter::descending::{Descending, SeenDescending};
+use crate::node::path_walk::ascending::Walk;
+use crate::node::path_walk::path::{BytePath, NoPath};
 use crate::node::seen::Seen;
 pub use crate::node::view::{LendingKeyBytes, LendingKeyView};
-use crate::node::walk::Walk;
-use crate::node::walk::path::{BytePath, NoPath};
-pub use crate::node::walks::descending::{Descending, SeenDescending};
-pub use crate::node::walks::matching::PrefixMatchIter;
 use rart_keys::{KeyTrait, Partial};
 use rart_parts::TreeError;
 use rart_trie::{Count, Visits};
 use std::marker::{Model, PhantomData};
+
+pub(crate) mod descending;
 
 /// A walk that makes a key for each pair.
 #[derive(Drop)]

@@ -18,8 +18,8 @@ ghost use Rattle.rart_trie.specs.walks.ProbeCount.{probe_count};
 ghost use Rattle.rart_trie.specs.walks.Calls.{MayLackMemory};
 
 use crate::node::iter::{Iter, KeyWalk};
+pub use crate::node::range::descending::{RangeDescending, SeenRangeDescending};
 use crate::node::seen::Seen;
-pub use crate::node::walks::descending::range::{RangeDescending, SeenRangeDescending};
 use rart_keys::{KeyTrait, Partial};
 use rart_parts::TreeError;
 use rart_trie::node::bounds::{bytes_of, slice_bound};
@@ -27,6 +27,8 @@ use rart_trie::{Count, Visits};
 use std::cmp::Ordering;
 use std::marker::Model;
 use std::ops::Bound;
+
+mod descending;
 
 /// Returns whether a key that compares so to an end comes before it. At the end itself, returns `included`.
 pub(crate) fn is_before(at: Ordering, included: bool) -> bool

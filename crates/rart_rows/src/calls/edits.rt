@@ -279,12 +279,16 @@ fn prefix_for_each_value_mut<K: KeyTrait + Drop>(
         answer.item(*value);
         *value = (*value).wrapping_add(added);
     };
-    if form.lends() {
-        tree.prefix_for_each_value_mut_by_ref_k(prefix, &mut add);
-    } else if form.takes_key() {
-        tree.prefix_for_each_value_mut(same_key(prefix), add);
-    } else {
-        tree.prefix_for_each_value_mut_k(prefix, add);
+    match form {
+        Form::Reference | Form::Step => tree.prefix_for_each_value_mut_k(prefix, add),
+        Form::Value => tree.prefix_for_each_value_mut(same_key(prefix), add),
+        Form::LentReference | Form::LentValue => {
+            tree.prefix_for_each_value_mut_by_ref_k(prefix, &mut add);
+        }
+        Form::Bytes => tree.prefix_for_each_value_mut_bytes(prefix.as_ref(), add),
+        Form::LentBytes => {
+            tree.prefix_for_each_value_mut_by_ref_bytes(prefix.as_ref(), &mut add);
+        }
     }
 }
 
@@ -298,10 +302,18 @@ fn range_for_each_value_mut<K: KeyTrait + Drop>(
         answer.item(*value);
         *value = (*value).wrapping_add(added);
     };
-    if asked.form.lends() {
-        tree.range_for_each_value_mut_by_ref(asked.start(), asked.end(), &mut add);
-    } else {
-        tree.range_for_each_value_mut(asked.start(), asked.end(), add);
+    match asked.form {
+        Form::LentReference | Form::LentValue => {
+            tree.range_for_each_value_mut_by_ref(asked.start(), asked.end(), &mut add);
+        }
+        Form::Bytes => {
+            tree.range_for_each_value_mut_bytes(asked.start_bytes(), asked.end_bytes(), add);
+        }
+        Form::LentBytes => {
+            let (start, end) = (asked.start_bytes(), asked.end_bytes());
+            tree.range_for_each_value_mut_by_ref_bytes(start, end, &mut add);
+        }
+        _ => tree.range_for_each_value_mut(asked.start(), asked.end(), add),
     }
 }
 

@@ -140,8 +140,17 @@ fn iter_descending<K: KeyTrait + Drop>(tree: &Tree<K>, answer: &mut Answer) {
     }
 }
 
-fn prefix_descending<K: KeyTrait + Drop>(tree: &Tree<K>, prefix: &K, answer: &mut Answer) {
-    match tree.prefix_iter_descending_k(prefix) {
+fn prefix_descending<K: KeyTrait + Drop>(
+    tree: &Tree<K>,
+    asked: &Asked<'_, K>,
+    answer: &mut Answer,
+) {
+    let walk = if asked.form.gives_bytes() {
+        tree.prefix_iter_descending_bytes(asked.key.as_ref())
+    } else {
+        tree.prefix_iter_descending_k(&asked.key)
+    };
+    match walk {
         Ok(mut pairs) => put_descending(&mut pairs, answer),
         Err(error) => answer.error(error),
     }
@@ -190,7 +199,7 @@ pub fn walk<K: KeyTrait + Drop>(
         Pairs::PrefixMatchIter => prefix_match_iter(tree, asked, answer),
         Pairs::Range => range(tree, asked, answer),
         Pairs::IterDescending => iter_descending(tree, answer),
-        Pairs::PrefixIterDescending => prefix_descending(tree, &asked.key, answer),
+        Pairs::PrefixIterDescending => prefix_descending(tree, asked, answer),
         Pairs::RangeDescending => range_descending(tree, asked, answer),
         Pairs::RangeBytes => range_bytes(tree, asked, answer),
         Pairs::RangeDescendingBytes => range_descending_bytes(tree, asked, answer),

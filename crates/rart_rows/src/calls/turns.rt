@@ -131,6 +131,19 @@ fn values_by_turns<K: KeyTrait + Drop>(tree: &Tree<K>, turns: &[u8], answer: &mu
     }
 }
 
+fn prefix_by_turns<K: KeyTrait + Drop>(tree: &Tree<K>, asked: &Asked<'_, K>, answer: &mut Answer) {
+    let turns = asked.args().turns;
+    if asked.form.gives_bytes() {
+        put_part(
+            tree.prefix_iter_both_ends_bytes(asked.key.as_ref()),
+            turns,
+            answer,
+        );
+    } else {
+        put_part(tree.prefix_iter_both_ends_k(&asked.key), turns, answer);
+    }
+}
+
 /// Calls an iterator from both ends by turns.
 pub fn walk_by_turns<K: KeyTrait + Drop>(
     tree: &Tree<K>,
@@ -142,9 +155,7 @@ pub fn walk_by_turns<K: KeyTrait + Drop>(
     match walk {
         Turns::IterBothEnds => put_both_ends(tree.iter_both_ends(), turns, answer),
         Turns::ValuesIterBothEnds => values_by_turns(tree, turns, answer),
-        Turns::PrefixIterBothEnds => {
-            put_part(tree.prefix_iter_both_ends_k(&asked.key), turns, answer);
-        }
+        Turns::PrefixIterBothEnds => prefix_by_turns(tree, asked, answer),
         Turns::RangeBothEnds => range_by_turns(tree, asked, answer),
         Turns::RangeBothEndsBytes => range_bytes_by_turns(tree, asked, answer),
     }

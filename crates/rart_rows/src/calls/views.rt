@@ -76,11 +76,13 @@ fn longest_view<K: KeyTrait + Drop>(
     let mut show = |view: LendingKeyView<'_, '_>, value: &u64| answer.view(view, *value);
     match asked.form {
         Form::Value => tree.with_longest_prefix_match_view(asked.taken(), show),
-        Form::LentReference | Form::LentBytes => {
-            tree.with_longest_prefix_match_view_by_ref_k(&asked.key, &mut show)
-        }
+        Form::LentReference => tree.with_longest_prefix_match_view_by_ref_k(&asked.key, &mut show),
         Form::LentValue => tree.with_longest_prefix_match_view_by_ref(asked.taken(), &mut show),
-        _ => tree.with_longest_prefix_match_view_k(&asked.key, show),
+        Form::Bytes => tree.with_longest_prefix_match_view_bytes(asked.key.as_ref(), show),
+        Form::LentBytes => {
+            tree.with_longest_prefix_match_view_by_ref_bytes(asked.key.as_ref(), &mut show)
+        }
+        Form::Reference | Form::Step => tree.with_longest_prefix_match_view_k(&asked.key, show),
     }
 }
 

@@ -32,8 +32,6 @@ static WORDS: [Pair; 6] = [
 // The call that ends a walk, and the nodes that are visited.
 type Row = (usize, usize);
 
-static MATCHES: [Row; 5] = [(1, 1), (2, 2), (5, 5), (8, 8), (9, 8)];
-
 // A pair of nodes is one visit: the roots, then the pair of each first byte, and that of each key.
 static SHARED: [Row; 5] = [(1, 3), (2, 4), (3, 6), (6, 10), (7, 10)];
 
@@ -46,19 +44,6 @@ fn answer(call: usize, end: usize, fails: bool) -> Result<VisitControl, u64> {
     } else {
         Ok(VisitControl::Stop)
     }
-}
-
-fn matches_visited(tree: &Tree, end: usize, fails: bool) -> usize {
-    let mut call = 0_usize;
-    let mut f = |_key: &[u8], _value: &u64| {
-        call = call.wrapping_add(1);
-        answer(call, end, fails)
-    };
-    let mut tally = Tally::new();
-    let _ended = tree
-        .seen()
-        .try_prefix_match_for_each_by_ref_bytes_counted(b"abcdefghij", &mut f, &mut tally);
-    tally.number
 }
 
 fn shared_visited(one: &Tree, other: &Tree, end: usize, fails: bool) -> usize {
@@ -74,18 +59,6 @@ fn shared_visited(one: &Tree, other: &Tree, end: usize, fails: bool) -> usize {
     tally.number
 }
 
-// The first row of which a walk over matches visits another number of nodes.
-fn first_wrong_match(tree: &Tree) -> Option<usize> {
-    for &(end, visits) in &MATCHES {
-        if matches_visited(tree, end, false) != visits
-            || matches_visited(tree, end, true) != visits
-        {
-            return Some(end);
-        }
-    }
-    None
-}
-
 fn first_wrong_shared(one: &Tree, other: &Tree) -> Option<usize> {
     for &(end, visits) in &SHARED {
         if shared_visited(one, other, end, false) != visits
@@ -98,16 +71,20 @@ fn first_wrong_shared(one: &Tree, other: &Tree) -> Option<usize> {
 }
 
 #[test]
-fn a_walk_over_matches_visits_no_node_once_it_is_ended(rt: HostRuntime) {
-    let tree = filled(rt.alloc(), &NESTED).expect(&rt, "a tree");
-    assert_eq!(rt; first_wrong_match(&tree), None);
-}
-
-#[test]
 fn an_intersection_visits_no_node_once_it_is_ended(rt: HostRuntime) {
     let one = filled(rt.alloc(), &WORDS).expect(&rt, "a tree");
     let other = filled(rt.alloc(), &WORDS).expect(&rt, "a tree");
     assert_eq!(rt; first_wrong_shared(&one, &other), None);
+}
+
+#[test]
+fn is_disjoint_visits_no_node_after_the_first_shared_key(rt: HostRuntime) {
+    let one = filled(rt.alloc(), &WORDS).expect(&rt, "a tree");
+    let other = filled(rt.alloc(), &WORDS).expect(&rt, "a tree");
+    let mut tally = Tally::new();
+    let is_disjoint = one.seen().is_disjoint_counted(other.seen(), &mut tally);
+    assert!(rt; !is_disjoint);
+    assert_eq!(rt; tally.number, 3);
 }
 
 // How often a walk over matches drops its callback.

@@ -12,7 +12,6 @@ use std::cell::Cell;
 /// A walk, by a form of its call.
 #[derive(Clone, Copy)]
 pub enum Walk {
-    TryValuesSeen,
     ValuesCounted,
     ValuesLentCounted,
     FoldCounted,
@@ -30,8 +29,7 @@ pub static PAIRS: [Pair; 5] = [
     ("beta", 5),
 ];
 
-static WALKS: [(Walk, usize); 8] = [
-    (Walk::TryValuesSeen, 4),
+static WALKS: [(Walk, usize); 7] = [
     (Walk::ValuesCounted, 4),
     (Walk::ValuesLentCounted, 4),
     (Walk::FoldCounted, 4),
@@ -223,7 +221,6 @@ fn try_values(tree: &Tree, key: Key, by_value: bool, calls: &Calls<'_>) -> Outco
 /// Makes the walk. A failure other than refused memory is returned as `Full`.
 pub fn make(tree: &Tree, key: Key, walk: Walk, calls: &Calls<'_>) -> Outcome {
     match walk {
-        Walk::TryValuesSeen => seen_forms::try_values_seen(tree, key, calls),
         Walk::ValuesCounted => seen_forms::values(tree, key, false, calls),
         Walk::ValuesLentCounted => seen_forms::values(tree, key, true, calls),
         Walk::FoldCounted => seen_forms::fold(tree, key, false, calls),

@@ -45,12 +45,6 @@ pub fn try_values(tree: &Tree, key: Key, lent: bool, calls: &Calls<'_>) -> Outco
     }
 }
 
-pub fn try_values_seen(tree: &Tree, key: Key, calls: &Calls<'_>) -> Outcome {
-    let callback = |value: &u64| calls.control(*value);
-    let seen = tree.seen::<Visits>();
-    outcome_of(seen.try_prefix_values_for_each_k(&key, callback), calls)
-}
-
 pub fn longest(tree: &Tree, key: Key, calls: &Calls<'_>) -> Outcome {
     let callback = |view: LendingKeyView<'_, '_>, value: &u64| calls.view(view, *value);
     let seen = tree.seen::<Visits>();

@@ -23,7 +23,7 @@ pub loop-value-preserved : goal.loop-value-preserved
 loop-value-preserved g c = record {
   so_far = copied-more _ _ _ _ _ _ c.push_reserved.ensures.items c.in-Some.ensures.steps
       c.loop-value.invariant.so_far;
-  values_fit = capacity-stays _ _ _ _ _ _ _ _ c.push_reserved.ensures.items c.in-Some.ensures.steps
+  values_fit = capacity-stays _ _ c.push_reserved.ensures.items c.in-Some.ensures.steps
       c.push_reserved.ensures.capacity c.loop-value.invariant.values_fit;
 }
 

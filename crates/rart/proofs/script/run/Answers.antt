@@ -12,8 +12,7 @@ loop-call-init g c = record {
 
 pub loop-call-preserved : goal.loop-call-preserved
 loop-call-preserved g c = record {
-  run = run-continues _ _ _ _ _ _ _ _ _ _ _ _ c.in-Some.ensures.steps.0 c.push_reserved.ensures.items
-      c.loop-call.invariant.run
+  run = run-continues _ c.in-Some.ensures.steps.0 c.push_reserved.ensures.items c.loop-call.invariant.run
       c.step.ensures;
   reserved = omega (arith, c.loop-call.invariant.reserved, c.push_reserved.ensures.capacity);
 }

@@ -22,7 +22,7 @@ use std::mem;
 use std::ops::Bound;
 
 #[derive(Drop)]
-enum BackWalk<'a, K: KeyTrait, V> {
+enum DescendingWalk<'a, K: KeyTrait, V> {
     Prefix(Descending<'a, K, V>),
     Bounds(RangeDescending<'a, K, V>),
 }
@@ -30,13 +30,13 @@ enum BackWalk<'a, K: KeyTrait, V> {
 /// The walk from the last pair of a part. A contract reads it as the list of remaining pairs, descending.
 #[derive(Drop)]
 struct Back<'a, K: KeyTrait, V> {
-    walk: BackWalk<'a, K, V>,
+    walk: DescendingWalk<'a, K, V>,
 }
 
 impl<'a, K: KeyTrait, V> Model for Back<'a, K, V> {
     ghost use Rattle.std.specs.Prelude.{ℕ, List};
     ghost use Rattle.rart_nodes.specs.ranges.UpperBounds.{down_to};
-    ghost use Rattle.rart.specs.declared.walks.both_ends.within.BackWalk.TheVariants.{Bounds, Prefix};
+    ghost use Rattle.rart.specs.declared.walks.both_ends.within.DescendingWalk.TheVariants.{Bounds, Prefix};
 
     ghost Value = { List (List ℕ × V) };
 
@@ -50,8 +50,8 @@ impl<'a, K: KeyTrait + Drop, V> Back<'a, K, V> {
             (λ p. self.old ≡ (K.bytes p.0, p.1.now) ∷ self.new) }
     {
         match &mut self.walk {
-            BackWalk::Prefix(pairs) => pairs.next(),
-            BackWalk::Bounds(pairs) => pairs.next(),
+            DescendingWalk::Prefix(pairs) => pairs.next(),
+            DescendingWalk::Bounds(pairs) => pairs.next(),
         }
     }
 }
@@ -196,13 +196,29 @@ impl<K: KeyTrait + Drop, V> AdaptiveRadixTree<K, V> {
         ensures pairs { IfOk result (λ it. it ≡ below (K.bytes prefix.now) self.now.pairs) }
         ensures memory { IfErr result (MayLackMemory self.now.pairs) }
     {
+        self.prefix_iter_both_ends_bytes(prefix.as_ref())
+    }
+
+    /// Returns an iterator from both ends over the pairs whose key begins with the bytes `prefix`, which may be longer
+    /// than any key, as [`prefix_iter_both_ends_k`](Self::prefix_iter_both_ends_k).
+    ///
+    /// # Errors
+    ///
+    /// [`TreeError::Memory`] if the tree isn't empty and an allocation fails.
+    pub fn prefix_iter_both_ends_bytes(
+        &self,
+        prefix: &[u8],
+    ) -> Result<BothEndsWithin<'_, K, V>, TreeError>
+        ensures pairs { IfOk result (λ it. it ≡ below prefix.now self.now.pairs) }
+        ensures memory { IfErr result (MayLackMemory self.now.pairs) }
+    {
         self.canonical();
-        let front = self.prefix_iter_k(prefix)?;
-        let back = self.prefix_iter_descending_k(prefix)?;
+        let front = self.prefix_iter_bytes(prefix)?;
+        let back = self.prefix_iter_descending_bytes(prefix)?;
         Ok(BothEndsWithin::of(
             Range::for_iter(front, Bound::Unbounded),
             Back {
-                walk: BackWalk::Prefix(back),
+                walk: DescendingWalk::Prefix(back),
             },
         ))
     }
@@ -230,7 +246,7 @@ impl<K: KeyTrait + Drop, V> AdaptiveRadixTree<K, V> {
         Ok(BothEndsWithin::of(
             front,
             Back {
-                walk: BackWalk::Bounds(back),
+                walk: DescendingWalk::Bounds(back),
             },
         ))
     }
@@ -256,7 +272,7 @@ impl<K: KeyTrait + Drop, V> AdaptiveRadixTree<K, V> {
         Ok(BothEndsWithin::of(
             front,
             Back {
-                walk: BackWalk::Bounds(back),
+                walk: DescendingWalk::Bounds(back),
             },
         ))
     }

@@ -4,6 +4,9 @@ ghost use Rattle.rart_keys.specs.Joins.{AreKeysOf, ShareNoKey};
 ghost use Rattle.rart_nodes.specs.joins.SeenJoins.{seen_bound, seen_visits};
 ghost use Rattle.rart_nodes.specs.tries.SeenTrees.{seen_pairs};
 
+use crate::node::intersect::join_path::JoinPath;
+use crate::node::intersect::visitor::AtFirst;
+use crate::node::intersect::{both_tops, intersect_trees};
 use crate::node::seen::Seen;
 use rart_keys::KeyTrait;
 use rart_trie::{Count, Paired};
@@ -46,7 +49,7 @@ impl<'a, K: KeyTrait, V, C: Count> Seen<'a, K, V, C> {
     ///
     /// # Visits
     ///
-    /// As `intersect_count_counted`.
+    /// Up to the first shared key: at most as `intersect_count_counted`, and as many if there is none.
     pub fn is_disjoint_counted<'b, W>(
         self,
         other: Seen<'b, K, W, Paired<C>>,
@@ -55,11 +58,25 @@ impl<'a, K: KeyTrait, V, C: Count> Seen<'a, K, V, C> {
         ensures value { IsTrue result
             ↔ ShareNoKey (seen_pairs self.entry) (seen_pairs other.entry) }
         ensures visits { C.number counter.new
+            ≤ C.number counter.old + seen_visits self.entry other.entry }
+        ensures all_visits { IsTrue result → C.number counter.new
             ≡ C.number counter.old + seen_visits self.entry other.entry }
         ensures bound { C.number counter.new
             ≤ C.number counter.old + seen_bound self.entry other.entry }
     {
         rart_keys::laws::joins::<V, W>();
-        self.intersect_count_counted(other, counter) == 0
+        let Some(tops) = both_tops(self, other) else {
+            return true;
+        };
+        let mut path = JoinPath::Nothing;
+        let walked = intersect_trees::<K, V, W, C, (), (), AtFirst>(
+            self,
+            other,
+            tops,
+            &mut path,
+            counter,
+            &mut (),
+        );
+        walked.is_ok()
     }
 }

@@ -5,11 +5,11 @@ ghost use Rattle.rart_nodes.specs.joins.TriedPairs.{CanTryAt, EndsVisitAt, EndsV
 ghost use Rattle.rart_nodes.specs.tries.SeenTrees.{seen_pairs};
 ghost use Rattle.rart_nodes.specs.walks.Tried.{IfAllocated, OnRefused};
 
+use crate::node::control::{VisitControl, VisitError};
 use crate::node::intersect::join_path::JoinPath;
 use crate::node::intersect::visitor::ByTriedKeys;
 use crate::node::intersect::{both_tops, intersect_trees};
 use crate::node::seen::Seen;
-use crate::node::walks::control::{VisitControl, VisitError};
 use rart_keys::KeyTrait;
 use rart_trie::{Count, Paired};
 

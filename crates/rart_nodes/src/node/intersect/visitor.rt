@@ -1,5 +1,5 @@
-//! What an intersection does with each common pair: it counts, or calls a callback with the values, the key or a view
-//! of it. The callback may end the walk.
+//! What an intersection does with each common pair: it counts, ends, or calls a callback with the values, the key or a
+//! view of it. The callback may end the walk.
 ghost use Rattle.std.specs.Prelude.{◌≡◌, ℕ, List, [], ◌∷◌, length, Result};
 ghost use Rattle.std.specs.Option.{option_copied};
 ghost use Rattle.rart_keys.specs.Joins.{both};
@@ -10,9 +10,9 @@ ghost use Rattle.rart_nodes.specs.joins.JoinPaths.{Kept};
 ghost use Rattle.rart_nodes.specs.joins.TriedPairs.{AnsweredAt, TakesPairAt, TriesEach};
 ghost use Rattle.rart_trie.specs.tries.Trie.{own_pair};
 
+use crate::node::control::VisitControl;
 use crate::node::intersect::join_path::JoinPath;
 use crate::node::view::LendingKeyView;
-use crate::node::walks::control::VisitControl;
 use rart_keys::KeyTrait;
 use std::marker::PhantomData;
 
@@ -75,6 +75,28 @@ impl<V, W, B> Visitor<V, W, usize, B> for Counted {
     }
 
     ghost lawful = { give_values CountedOn };
+
+    ghost deeper = { λ s t p f x w h. tt };
+}
+
+/// Ends the walk at the first pair.
+pub(crate) struct AtFirst;
+
+impl<V, W> Visitor<V, W, (), ()> for AtFirst {
+    ghost use Rattle.rart_nodes.specs.joins.Visitors.{GivenFirst, give_first};
+    ghost use Rattle.rart_nodes.specs.joins.JoinPaths.{PathReserved};
+
+    ghost reserved = { PathReserved };
+
+    ghost can = { λ s f x. Unit {0} };
+
+    ghost given = { GivenFirst };
+
+    fn give(_path: &JoinPath<'_>, _state: &mut (), _left: &V, _right: &W) -> Result<(), ()> {
+        Err(())
+    }
+
+    ghost lawful = { give_first };
 
     ghost deeper = { λ s t p f x w h. tt };
 }

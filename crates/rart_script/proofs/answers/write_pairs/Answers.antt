@@ -12,11 +12,11 @@ loop-key-init g c =
     let whole : c.args.pairs.items ≡ (c.in-Some.key, c.in-Some.value) ∷ into_iter_items c.next.new.self
     = cc (c.in-Some.ensures.items) in
     let left = ap into_iter_items c.into_iter-key-iterator.ensures.into_iter_gives in
-    pairs-begin _ _ _ _ _ _ _ _ (ap (pairs_in array_key_bytes) whole) (ap (pairs_in array_key_bytes) left)
+    pairs-begin (ap (pairs_in array_key_bytes) whole) (ap (pairs_in array_key_bytes) left)
     c.as_ref.ensures c.in_ok-write_pair.ensures
 
 pub loop-key-preserved : goal.loop-key-preserved
-loop-key-preserved g c = pairs-next _ _ _ _ _ _ _ _ _ _ (ap (pairs_in array_key_bytes) c.in-Some-2.ensures.steps.0)
+loop-key-preserved g c = pairs-next (ap (pairs_in array_key_bytes) c.in-Some-2.ensures.steps.0)
     c.as_ref-in-loop-key.ensures c.loop-key.invariant c.in_ok-write.ensures.bytes c.in_ok-write_pair-2.ensures
 
 pub returns : goal.returns

@@ -33,6 +33,6 @@ invariant_of-self-2 g c = fields-kept _ _ _ _ _ _ _ c.self.invariant c.in_ok-roo
     c.length_kept-self-inside.ensures.some
 
 pub returns-clause-bound : goal.returns-clause-bound
-returns-clause-bound g c = rw (← c.self.view_is) (bound-taken _ _ _ _ _ _ _ _ refl
+returns-clause-bound g c = rw (← c.self.view_is) (bound-taken _ _ _ _ refl
     c.in_ok-root.ensures.taken c.in_ok-root.ensures.bound c.count_pairs_counted-len.ensures.bound
     (pairs-counted _ _ _ _ refl c.of-seen.ensures.root c.as_ref.ensures.value))

@@ -36,9 +36,9 @@ loop-key-preserved g c = record {
       (ap keys_of c.in-Some.ensures.steps) c.loop-key.invariant.keys;
   values = one-clone-more g.V.Clone.is_clone _ _ _ _ _ _ _ _ c.loop-key.invariant.values c.in-Some.ensures.steps
       c.push_reserved-in-Some.ensures.items c.in_ok-clone.ensures.cases;
-  keys_fit = capacity-stays _ _ _ _ _ _ _ _ c.push_reserved.ensures.items c.in-Some.ensures.steps
+  keys_fit = capacity-stays _ _ c.push_reserved.ensures.items c.in-Some.ensures.steps
       c.push_reserved.ensures.capacity c.loop-key.invariant.keys_fit;
-  values_fit = capacity-stays _ _ _ _ _ _ _ _ c.push_reserved-in-Some.ensures.items c.in-Some.ensures.steps
+  values_fit = capacity-stays _ _ c.push_reserved-in-Some.ensures.items c.in-Some.ensures.steps
       c.push_reserved-in-Some.ensures.capacity c.loop-key.invariant.values_fit;
 }
 

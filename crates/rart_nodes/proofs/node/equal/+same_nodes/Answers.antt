@@ -30,7 +30,7 @@ returns-then-not-same_nodes-clause-value g t c =
     let differ = c.if-not-same_nodes.ensures.value
     ∙ ap (λ z. same_tries g.V.PartialEq.eq z c.enter_pair.result.1.node.now) c.enter_pair.ensures.left
     ∙ ap (λ z. same_tries g.V.PartialEq.eq c.in-Some.child.node.now z) c.enter_pair.ensures.right in
-    next-differ g.V.PartialEq.eq c.args.left.node.now c.args.right.node.now _ _ _ _ _ _ _ _ c.loop-byte.invariant.same
+    next-differ g.V.PartialEq.eq c.args.left.node.now c.args.right.node.now _ c.loop-byte.invariant.same
     c.in-Some.ensures c.in-Some-next_child.ensures differ
 
 pub returns-then-not-same_nodes-clause-left_visits : goal.returns-then-not-same_nodes-clause-left_visits

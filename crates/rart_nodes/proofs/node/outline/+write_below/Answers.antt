@@ -25,7 +25,7 @@ loop-child-preserved g t c =
     let below = shows-ok took c.loop-child.f c.write_below.new.f c.in_ok-write_below.field-0
     (outline_below g.V.Display.output (c.args.level + 1) c.in-Some.child.node.now) c.in_ok-write_below.ensures in
     record {
-      written = written-child took g.V.Display.output c.args.level _ _ _ _ _ _ _ _ e.1 w.written (rw deep at below);
+      written = written-child took g.V.Display.output c.args.level _ _ e.1 w.written (rw deep at below);
       last = fewer-last _ _ _ _ _ e.1 w.last;
     }
 

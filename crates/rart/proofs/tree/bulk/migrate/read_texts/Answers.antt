@@ -23,13 +23,13 @@ loop-key-smaller g c = left-shorter _ _ _ c.in-Some.ensures.steps
 
 pub loop-key-preserved : goal.loop-key-preserved
 loop-key-preserved g c = record {
-  keys = texts-more (array_key_bytes {N = g.row.N}) _ _ _ _ _ _ _ _ c.push_reserved.ensures.items
+  keys = texts-more (array_key_bytes {N = g.row.N}) _ _ c.push_reserved.ensures.items
       c.in-Some.ensures.steps c.in-Some-without_zero.ensures.text c.loop-key.invariant.keys;
   values = sym (copied-more _ _ _ _ _ _ c.push_reserved-in-Some.ensures.items (ap values_of c.in-Some.ensures.steps)
       (sym c.loop-key.invariant.values));
-  keys_fit = capacity-stays _ _ _ _ _ _ _ _ c.push_reserved.ensures.items c.in-Some.ensures.steps
+  keys_fit = capacity-stays _ _ c.push_reserved.ensures.items c.in-Some.ensures.steps
       c.push_reserved.ensures.capacity c.loop-key.invariant.keys_fit;
-  values_fit = capacity-stays _ _ _ _ _ _ _ _ c.push_reserved-in-Some.ensures.items c.in-Some.ensures.steps
+  values_fit = capacity-stays _ _ c.push_reserved-in-Some.ensures.items c.in-Some.ensures.steps
       c.push_reserved-in-Some.ensures.capacity c.loop-key.invariant.values_fit;
 }
 

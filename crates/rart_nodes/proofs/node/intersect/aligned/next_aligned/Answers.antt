@@ -56,8 +56,8 @@ grow-requires-in-loop-byte g c =
 pub returns-in_default : goal.returns-in_default
 returns-in_default g c =
     let inv = c.loop-byte.invariant in
-    let end = place-aligned _ _ _ _ _ _ _ _ _ c.loop-byte.left.canonical c.in-None.ensures c.in_default.ensures
-    (place-common _ _ _ _ _ _ _ _ _ _ _ _ c.part.ensures.left_is c.part.ensures.right_is inv.2) in
+    let end = place-aligned c.loop-byte.left.canonical c.in-None.ensures c.in_default.ensures
+    (place-common _ c.part.ensures.left_is c.part.ensures.right_is inv.2) in
     record {
       aligned = (inv.0 ++ c.part.result.0.now, path-on _ _ _ inv.0 _ inv.1 c.grow-in-loop-byte.ensures, end.aligned);
       visits = end.visits;
@@ -69,7 +69,7 @@ returns-in_default-enter_after g c =
     let inv = c.loop-byte.invariant in
     let end = place-left_none _ _ _ _ _ _ c.in-Some-next_byte.byte c.loop-byte.left.node.now _ _ _
     c.loop-byte.left.canonical c.in-None.ensures c.in-Some-next_byte.ensures.0 c.in_default-enter_after.ensures.shown
-    (place-common _ _ _ _ _ _ _ _ _ _ _ _ c.part.ensures.left_is c.part.ensures.right_is inv.2) in
+    (place-common _ c.part.ensures.left_is c.part.ensures.right_is inv.2) in
     record {
       aligned = (inv.0 ++ c.part.result.0.now, path-on _ _ _ inv.0 _ inv.1 c.grow-in-loop-byte.ensures, end.given);
       visits = omega (arith, end.visits, c.in_default-enter_after.ensures.counted);
@@ -80,10 +80,10 @@ left-on : (g : Over) (c : In-Some-enter_after g) → Step c.args.left.node.now c
     c.in-Some-enter_after.child.node.now c.in-Some-enter_after.rest.now c.loop-byte.right.node.now
     c.in-Some-next_byte.after.now (g.C.Count.number c.loop-byte.counter + 1) (g.C.Count.number c.args.counter.now)
     (node_count c.loop-byte.left.node.now + node_count c.loop-byte.right.node.now)
-left-on g c = place-left _ _ _ _ _ _ _ _ _ _ _ _ _ c.loop-byte.left.canonical c.in-Some-enter_after.child.canonical
+left-on g c = place-left c.loop-byte.left.canonical c.in-Some-enter_after.child.canonical
     c.in-None.ensures c.in-Some-next_byte.ensures.0 c.in-Some-enter_after.ensures.shown.0
     c.in-Some-enter_after.ensures.shown.2
-    (place-common _ _ _ _ _ _ _ _ _ _ _ _ c.part.ensures.left_is c.part.ensures.right_is c.loop-byte.invariant.2)
+    (place-common _ c.part.ensures.left_is c.part.ensures.right_is c.loop-byte.invariant.2)
 
 pub grow-requires-in-None : goal.grow-requires-in-None
 grow-requires-in-None g c =
@@ -115,9 +115,9 @@ loop-byte-preserved-in-None g c =
 pub returns-then-not-is_empty : goal.returns-then-not-is_empty
 returns-then-not-is_empty g c =
     let inv = c.loop-byte.invariant in
-    let end = place-parted _ _ _ _ _ _ _ _ _ _ _ c.in-Some.ensures.0
+    let end = place-parted c.in-Some.ensures.0
     (some-when _ _ c.is_empty.ensures c.if-not-is_empty.true) c.part.ensures.apart
-    (place-common _ _ _ _ _ _ _ _ _ _ _ _ c.part.ensures.left_is c.part.ensures.right_is inv.2) in
+    (place-common _ c.part.ensures.left_is c.part.ensures.right_is inv.2) in
     record {
       aligned = (inv.0 ++ c.part.result.0.now, path-on _ _ _ inv.0 _ inv.1 c.grow-in-loop-byte.ensures, end.given);
       visits = end.visits;
@@ -130,7 +130,7 @@ returns-in_default-enter_other_after g c =
     let end = place-right_none _ _ _ _ _ _ c.in-Some.byte _ c.loop-byte.right.node.now _ _
     c.loop-byte.right.canonical c.in-Some.ensures.0 (nil-when _ _ c.is_empty.ensures c.if-not-is_empty.false)
     c.in_default-enter_other_after.ensures.shown
-    (place-common _ _ _ _ _ _ _ _ _ _ _ _ c.part.ensures.left_is c.part.ensures.right_is inv.2) in
+    (place-common _ c.part.ensures.left_is c.part.ensures.right_is inv.2) in
     record {
       aligned = (inv.0 ++ c.part.result.0.now, path-on _ _ _ inv.0 _ inv.1 c.grow-in-loop-byte.ensures, end.given);
       visits = omega (arith, end.visits, c.in_default-enter_other_after.ensures.counted);
@@ -142,10 +142,10 @@ right-on : (g : Over) (c : In-Some-enter_other_after g) → Step c.args.left.nod
     c.in-Some-enter_other_after.rest.now (g.C.Count.number c.loop-byte.counter + 1)
     (g.C.Count.number c.args.counter.now)
     (node_count c.loop-byte.left.node.now + node_count c.loop-byte.right.node.now)
-right-on g c = place-right _ _ _ _ _ _ _ _ _ _ _ _ _ c.loop-byte.right.canonical c.in-Some.ensures.0
+right-on g c = place-right c.loop-byte.right.canonical c.in-Some.ensures.0
     (nil-when _ _ c.is_empty.ensures c.if-not-is_empty.false) c.in-Some-enter_other_after.ensures.shown.0
     c.in-Some-enter_other_after.ensures.shown.2
-    (place-common _ _ _ _ _ _ _ _ _ _ _ _ c.part.ensures.left_is c.part.ensures.right_is c.loop-byte.invariant.2)
+    (place-common _ c.part.ensures.left_is c.part.ensures.right_is c.loop-byte.invariant.2)
 
 pub grow-requires-in-Some : goal.grow-requires-in-Some
 grow-requires-in-Some g c =

@@ -1,5 +1,5 @@
 use Rattle.std.proofs.Common.{◌≡◌, rules, of_calls, refl, Ok, Err}
-use Rattle.rart_nodes.specs.declared.node.walks.control.VisitControl.TheVariants.{Continue, Stop}
+use Rattle.rart_nodes.specs.declared.node.control.VisitControl.TheVariants.{Continue, Stop}
 use Rattle.rart_nodes.specs.joins.TriedPairs.{AnsweredAt}
 use Rattle.rart_nodes.proofs.node.intersect.visitor.try_with_key.Goals as goal
 

@@ -13,7 +13,7 @@ returns-clause-pairs g c =
     let b = lent_bound c.args.end in
     let short = bound_in g.K.KeyTrait.bytes c.short_start-start.result in
     let es = tree_pairs (option_copied c.args.self.root) in
-    subst (λ (w : List (List ℕ × g.row.V.Denot)). IfOk c.range_back_to.result (λ r. down_to r.0 r.1 ≡ reverse w))
+    subst (λ (w : List (List ℕ × g.row.V.Denot)). IfOk c.range_descending_to.result (λ r. down_to r.0 r.1 ≡ reverse w))
     (between-short short b a b c.longest.result es c.longest.ensures.bounds_keys c.short_start-start.ensures
     (λ k l. refl))
-    c.range_back_to.ensures.pairs
+    c.range_descending_to.ensures.pairs

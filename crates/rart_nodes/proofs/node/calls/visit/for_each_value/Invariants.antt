@@ -1,0 +1,24 @@
+use Rattle.std.proofs.Common.{◌≤◌, ◌+◌, ◌^◌, [], length, reverse, vec_capacity}
+use Rattle.std.specs.Option.{option_copied}
+use Rattle.rart_nodes.specs.walks.Shown.{CanShow, ShowsEach}
+use Rattle.rart_trie.specs.walks.Walk.{IsWalk, nodes_below, entry_values, entries_ahead}
+use Rattle.rart_nodes.specs.walks.PathParts.{no_segment}
+use Rattle.rart_nodes.proofs.node.calls.visit.for_each_value.Given as goal
+
+abbrev pub invariant-loop-value : goal.invariant-loop-value
+invariant-loop-value g l = record {
+  callable : CanShow g.F.FnMut l.f (entry_values
+      (entries_ahead no_segment [] (option_copied l.walk.first) l.walk.levels.items));
+  path : IsWalk l.walk.longest (vec_capacity l.walk.levels) [] (reverse l.walk.levels.items);
+  reserved : l.walk.longest ≤ 2 ^ 64;
+  folds : (last : _) → ShowsEach g.F.FnMut l.f
+      (entry_values (entries_ahead no_segment [] (option_copied l.walk.first) l.walk.levels.items)) last
+      → ShowsEach g.F.FnMut l.fn.f (entry_values
+      (entries_ahead no_segment [] (option_copied l.fn.walk.first) l.fn.walk.levels.items)) last;
+  visits : g.C.Count.number l.counter + nodes_below (reverse l.walk.levels.items) ≤ g.C.Count.number l.fn.counter
+      + nodes_below (reverse l.fn.walk.levels.items);
+}
+
+abbrev pub decreases-loop-value : goal.decreases-loop-value
+decreases-loop-value g l = length (entry_values
+    (entries_ahead no_segment [] (option_copied l.walk.first) l.walk.levels.items))

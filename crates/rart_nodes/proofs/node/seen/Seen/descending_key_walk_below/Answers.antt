@@ -1,0 +1,18 @@
+use Rattle.std.proofs.Common.{ap, ◌∙◌}
+use Rattle.std.specs.Option.{option_copied}
+use Rattle.rart_trie.specs.walks.Walk.{join_all}
+use Rattle.rart_nodes.specs.walks.PathParts.{byte_segments}
+use Rattle.rart_nodes.proofs.walks.PathLemmas.{key-walk}
+use Rattle.rart_trie.proofs.tries.CanonicalTests.{IsCanonicalTree-test}
+use Rattle.rart_nodes.proofs.walks.PartLemmas.{part-keys}
+use Rattle.rart_nodes.proofs.walks.EntryLemmas.{joins-bytes}
+use Rattle.rart_nodes.proofs.node.seen.Seen.descending_key_walk_below.Goals as goal
+
+pub invariant_of-result : goal.invariant_of-result
+invariant_of-result g c
+    = key-walk c.in_ok-walk.ensures.path c.in_ok-walk.ensures.reserved c.in_ok-walk.ensures.longest c.args.self.fits
+
+pub returns-clause-pairs : goal.returns-clause-pairs
+returns-clause-pairs g c = ap join_all c.in_ok-walk.ensures.entries
+    ∙ part-keys byte_segments c.args.prefix.now (option_copied c.args.self.root) joins-bytes
+    (IsCanonicalTree-test _ c.args.self.canonical)
