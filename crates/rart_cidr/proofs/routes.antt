@@ -1,10 +1,15 @@
+pub mod AggregateLemmas
+pub mod AggregateSteps
 pub mod CodeKeyLemmas
 pub mod CodeMapLemmas
 pub mod EditLemmas
+pub mod ExtensionLemmas
 pub mod LoanLemmas
 pub mod OneLemmas
 pub mod PackedLemmas
 pub mod RefusalLemmas
+pub mod RemovalLemmas
 pub mod RouteLemmas
+pub mod SplitLemmas
 pub mod StrideLemmas
 pub mod WidthLemmas

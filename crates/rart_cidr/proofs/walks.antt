@@ -3,4 +3,5 @@ pub mod FilterLemmas
 pub mod LongestLemmas
 pub mod MatchLemmas
 pub mod NextLemmas
+pub mod NextRouteLemmas
 pub mod StartLemmas

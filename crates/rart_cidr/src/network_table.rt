@@ -9,7 +9,11 @@ ghost use Rattle.rart_cidr.specs.Edits.{InsertsRoute, RemovesRoute};
 ghost use Rattle.rart_cidr.specs.Longest.{IsLongestRoute, first_by_lengths};
 ghost use Rattle.rart_cidr.specs.NetworkLoans.{lends_network_target};
 
+mod aggregate;
+mod extend;
 mod matches;
+mod next;
+mod remove;
 mod routes;
 mod seen;
 mod v4;

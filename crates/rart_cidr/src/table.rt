@@ -13,6 +13,7 @@ mod get_mut;
 mod longest;
 mod matches;
 mod next;
+mod next_route;
 pub mod seen;
 pub(crate) mod walk;
 

@@ -1,6 +1,6 @@
 -- Each network of a table has at most as many bits as an address, whatever edits the table.
 use Rattle.std.proofs.Common.{ℕ, ◌≤◌, length, List, [], ◌∷◌, true, false, not, sym, subst, Option, if◌then◌else◌}
-use Rattle.std.specs.Prelude.{Result, Ok, Err}
+use Rattle.std.specs.Prelude.{◌≡◌, Result, Ok, Err, Some, slice_get}
 use Rattle.std.specs.Ordering.{nat_cmp, match_ordering}
 use Rattle.std.specs.Cmp.Lexicographic.{slice_cmp}
 use Rattle.std.specs.declared.cmp.Ordering.TheVariants.{Less, Equal, Greater}
@@ -39,3 +39,8 @@ module _ {T : Type 0} where
       → RemovesRoute k old new r → AreWithin w old → AreWithin w new
   remove_within w k old new (Ok was) i a = subst (AreWithin w) (sym i.1) (without_within w k old a)
   remove_within w k old new (Err error) i a = subst (AreWithin w) (sym i.3) a
+
+  pub first_width : (w : ℕ) (n : List ℕ) (t : T) (es : List (List ℕ × T)) → AreWithin w es
+      → Some (n, t) ≡ slice_get es 0 → length n ≤ w
+  first_width w n t [] a h = absurd (let x = h in cc)
+  first_width w n t (e ∷ es) a h = let same : n ≡ e.0 = (let x = h in cc) in subst (λ z. length z ≤ w) (sym same) a.0

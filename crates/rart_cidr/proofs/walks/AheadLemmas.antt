@@ -1,7 +1,7 @@
 -- What a walk over the routes of a table does next.
 use Rattle.std.proofs.Common.{◌≡◌, ℕ, suc, ◌*◌, ◌<◌, ◌≤◌, ◌++◌, ◌&&◌, ⊎_elim, length, take}
 use Rattle.std.proofs.Common.{arith}
-use Rattle.std.proofs.Common.{Bool, not, List, [], ◌∷◌, true, false, refl, sym, ap, subst, ◌∙◌, Option, Some, None}
+use Rattle.std.proofs.Common.{Bool, List, [], ◌∷◌, true, false, refl, sym, ap, subst, ◌∙◌, Option, Some, None}
 use Rattle.std.proofs.Common.{if◌then◌else◌}
 use Rattle.std.specs.Prelude.{◌≢◌, filter, option_map, slice_index}
 use Rattle.std.proofs.Common.{◌/◌, ◌%◌}
@@ -20,7 +20,7 @@ use Rattle.rart_cidr.specs.Routes.{with_stride}
 use Rattle.rart_cidr.specs.Walks.{AreAhead, IsBefore, IsNextBefore, IsStart, keys_ahead, net_at}
 use Rattle.rart_cidr.proofs.networks.BitLemmas.{code-in_range, code-short, network-coded}
 use Rattle.rart_cidr.proofs.walks.FilterLemmas.{equal_filters, first_filtered, from_after, from_before, from_is}
-use Rattle.rart_cidr.proofs.walks.FilterLemmas.{from_itself}
+use Rattle.rart_cidr.proofs.walks.FilterLemmas.{from_itself, from_not_stored, from_stored}
 use Rattle.rart_cidr.proofs.walks.FilterLemmas.{ascending_filter, lookup_filter, none_filtered}
 use Rattle.rart_cidr.proofs.walks.NextLemmas.{before_trans}
 use Rattle.rart_cidr.proofs.networks.OrderLemmas.{bytes-order}
@@ -98,27 +98,14 @@ module _ {T : Type 0} where
   pub itself : (S : List (List ℕ × List (List ℕ × T))) (k : List ℕ) (c : ℕ) (t : T) → IsAscending S → AreStrides S
       → AreBytes k → IsCode (c ∷ []) → lookup (c ∷ []) (stride_at k S) ≡ Some t
       → pairs_from true (net_at k c) (routes_of S) ≡ (net_at k c, t) ∷ pairs_from false (net_at k c) (routes_of S)
-  itself S k c t a b f g h = let q = net_at k c in
-      first_filtered (is_from_bound true q) (is_from_bound false q) q t (routes_of S) (routes-ascend S)
-      (lookup-routes S k (c ∷ []) a b f g ∙ h) (from_itself true q)
-      (λ p e. ⊎_elim (λ l. l) (λ m. absurd (let z = m.1 in cc)) (from_is false q p e))
-      (λ p u e n. ⊎_elim
-      (λ l. from_after true q p l ∙ sym (from_after false q p l))
-      (⊎_elim (λ m. absurd (n m)) (λ l. from_before true q p l ∙ sym (from_before false q p l)))
-      (compare q p))
+  itself S k c t a b f g h = from_stored (net_at k c) t (routes_of S) (routes-ascend S)
+      (lookup-routes S k (c ∷ []) a b f g ∙ h)
 
   pub not_itself : (S : List (List ℕ × List (List ℕ × T))) (k : List ℕ) (c : ℕ) → IsAscending S → AreStrides S
       → AreBytes k → IsCode (c ∷ []) → lookup (c ∷ []) (stride_at k S) ≡ None
       → pairs_from true (net_at k c) (routes_of S) ≡ pairs_from false (net_at k c) (routes_of S)
-  not_itself S k c a b f g h = let q = net_at k c in
-      equal_filters (is_from_bound true q) (is_from_bound false q) (routes_of S) (routes-ascend S)
-      (λ p t e. ⊎_elim
-      (λ l. from_after true q p l ∙ sym (from_after false q p l))
-      (⊎_elim
-      (λ m. absurd (let n = sym (lookup-routes S k (c ∷ []) a b f g ∙ h)
-      ∙ ap (λ z. lookup z (routes_of S)) m ∙ e in cc))
-      (λ l. from_before true q p l ∙ sym (from_before false q p l)))
-      (compare q p))
+  not_itself S k c a b f g h = from_not_stored (net_at k c) (routes_of S) (routes-ascend S)
+      (lookup-routes S k (c ∷ []) a b f g ∙ h)
 
   -- no route is after the network and before the first stride ahead
   none-before : (S : List (List ℕ × List (List ℕ × T))) (ks : List (List ℕ)) (k : List ℕ) (c : ℕ) (n : List ℕ) (t : T)
@@ -248,7 +235,7 @@ module _ {T : Type 0} where
       ] refl
 
   -- the keys within a start are those ahead
-  started_ahead : (S : List (List ℕ × List (List ℕ × T))) (q : List ℕ) (start : Bound (List ℕ)) → IsAscending S
+  pub started_ahead : (S : List (List ℕ × List (List ℕ × T))) (q : List ℕ) (start : Bound (List ℕ)) → IsAscending S
       → AreStrides S → IsStart q start → AreAhead q S (keys_of (between start Unbounded S))
   started_ahead S q start a b h = let f = λ (p : List ℕ). is_from start p && true in
       in-order S (filter (λ e. f e.0) S) q b (ascending_filter f S a)

@@ -51,7 +51,7 @@ outside-after (x ∷ q) (y ∷ k) (z ∷ l) a b c = ⊎_elim
     (λ n. rw (eq-no x z n) refl)
     (equal_or_not x z)
 
-not-inside-before : (q k : List ℕ) → IsLess k q → begins q k ≡ false
+pub not-inside-before : (q k : List ℕ) → IsLess k q → begins q k ≡ false
 not-inside-before [] k l = absurd (not-less_nil k l)
 not-inside-before (x ∷ q) [] l = refl
 not-inside-before (x ∷ q) (y ∷ k) l = ⊎_elim
@@ -187,3 +187,30 @@ module _ {T : Type 0} where
   pub below_nothing : (es : List (List ℕ × T)) → below [] es ≡ es
   below_nothing [] = refl
   below_nothing (e ∷ es) = ap (λ z. e ∷ z) (below_nothing es)
+
+  -- from a stored network on: its route, and those after it
+  pub from_stored : (q : List ℕ) (t : T) (v : List (List ℕ × T)) → IsAscending v → lookup q v ≡ Some t
+      → pairs_from true q v ≡ (q, t) ∷ pairs_from false q v
+  from_stored q t v a h = first_filtered (is_from_bound true q) (is_from_bound false q) q t v a h (from_itself true q)
+      (λ p e. ⊎_elim (λ l. l) (λ m. absurd (let z = m.1 in cc)) (from_is false q p e))
+      (λ p u e n. ⊎_elim
+      (λ l. from_after true q p l ∙ sym (from_after false q p l))
+      (⊎_elim (λ m. absurd (n m)) (λ l. from_before true q p l ∙ sym (from_before false q p l)))
+      (compare q p))
+
+  -- from another network on: those after it
+  pub from_not_stored : (q : List ℕ) (v : List (List ℕ × T)) → IsAscending v → lookup q v ≡ None
+      → pairs_from true q v ≡ pairs_from false q v
+  from_not_stored q v a h = equal_filters (is_from_bound true q) (is_from_bound false q) v a
+      (λ p t e. ⊎_elim
+      (λ l. from_after true q p l ∙ sym (from_after false q p l))
+      (⊎_elim
+      (λ m. absurd (let n = sym h ∙ ap (λ z. lookup z v) m ∙ e in cc))
+      (λ l. from_before true q p l ∙ sym (from_before false q p l)))
+      (compare q p))
+
+  -- no network comes before that of no bits
+  pub from_nothing : (es : List (List ℕ × T)) → pairs_from true [] es ≡ es
+  from_nothing [] = refl
+  from_nothing (([], t) ∷ es) = ap (λ z. ([], t) ∷ z) (from_nothing es)
+  from_nothing ((x ∷ k, t) ∷ es) = ap (λ z. (x ∷ k, t) ∷ z) (from_nothing es)

@@ -68,17 +68,20 @@ whole o n f h e = let x = slice_index o (n / 8) in network-coded o n f h
     ∙ ap (λ z. bits_of (take (n / 8) o) ++ z) (sym (code-is x 0 (f (n / 8)) refl))
     ∙ append-nil (bits_of (take (n / 8) o))
 
+-- the keys after one
+pub start_key : (a : List ℕ) → AreBytes a → IsStart (bits_of a) (Excluded a)
+start_key a bytes p g = (
+  λ s. ⊎_elim
+      (λ l. bytes-order a p bytes g ∙ l)
+      (λ t. absurd (let u = t.1 in cc))
+      (from_is false a p s),
+  λ l. from_after false a p (sym (bytes-order a p bytes g) ∙ l),
+)
+
 pub start_whole : (o a : List ℕ) (n : ℕ) → AreBytes o → n ≤ 8 * length o → n % 8 ≡ 0 → a ≡ take (n / 8) o
     → IsStart (network o n) (Excluded a)
-start_whole o a n f h e m p g =
-    let same : network o n ≡ bits_of a = whole o n f h e ∙ ap bits_of (sym m) in
-    let bytes : AreBytes a = subst AreBytes (sym m) (AreBytes-take (n / 8) o f) in (
-      λ s. ⊎_elim
-          (λ l. subst (λ z. IsLess z (bits_of p)) (sym same) (bytes-order a p bytes g ∙ l))
-          (λ t. absurd (let u = t.1 in cc))
-          (from_is false a p s),
-      λ l. from_after false a p (sym (bytes-order a p bytes g) ∙ subst (λ z. IsLess z (bits_of p)) same l),
-    )
+start_whole o a n f h e m = subst (λ z. IsStart z (Excluded a)) (sym (whole o n f h e ∙ ap bits_of (sym m)))
+    (start_key a (subst AreBytes (sym m) (AreBytes-take (n / 8) o f)))
 
 pub start_within : (o a : List ℕ) (n : ℕ) → AreBytes o → n ≤ 8 * length o → (n % 8 ≡ 0 → ⊥) → a ≡ take (n / 8 + 1) o
     → AreClearAfter (bits_of o) n → IsStart (network o n) (Included a)

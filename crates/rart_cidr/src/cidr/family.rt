@@ -22,6 +22,10 @@ pub trait Network: Copy {
 
     ghost address_len: { ℕ };
 
+    /// Returns the network of no bits, which contains every address.
+    fn whole() -> Self
+        ensures { bits result ≡ [] };
+
     /// Returns the octets of the first address.
     fn octets(&self) -> &[u8]
         ensures value { network result.now (length (bits self.now)) ≡ bits self.now }
@@ -52,14 +56,53 @@ pub trait Network: Copy {
         ensures { bits result ≡ coded_network octets.now (code ∷ []) };
 }
 
-impl<const N: usize> Network for Cidr<N> {
+// That `N` is at most 16 is known of a network at hand alone, and `whole` has none. So each version has an `impl`.
+impl Network for Cidr<4> {
     ghost use Rattle.rart_cidr.specs.Networks.{cidr_bits};
 
-    type Key = ArrayKey<N>;
+    type Key = ArrayKey<4>;
 
     ghost bits = { cidr_bits };
 
-    ghost address_len = { N };
+    ghost address_len = { 4 };
+
+    fn whole() -> Self {
+        Cidr::masked_octets(&[0; 4], 0)
+    }
+
+    fn octets(&self) -> &[u8] {
+        self.octets()
+    }
+
+    fn len(&self) -> u8 {
+        self.len()
+    }
+
+    fn supernet(&self, len: u8) -> Self {
+        self.supernet(len)
+    }
+
+    fn contains_net(&self, net: &Self) -> bool {
+        self.contains_net(net)
+    }
+
+    fn at_code(&self, octets: &[u8], code: u8) -> Self {
+        network_of(octets, code)
+    }
+}
+
+impl Network for Cidr<16> {
+    ghost use Rattle.rart_cidr.specs.Networks.{cidr_bits};
+
+    type Key = ArrayKey<16>;
+
+    ghost bits = { cidr_bits };
+
+    ghost address_len = { 16 };
+
+    fn whole() -> Self {
+        Cidr::masked_octets(&[0; 16], 0)
+    }
 
     fn octets(&self) -> &[u8] {
         self.octets()
