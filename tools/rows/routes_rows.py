@@ -45,6 +45,16 @@ ROWS = (
         b"",
         0,
     ),
+    # A route leaves if the next shorter network that contains its own has the same target, in its own table.
+    (b"aggregate\n0.0.0.0/0 a\n::/0 a\naggregate\n", b"0\n0\n", b"", 0),
+    (
+        b"0.0.0.0/0 a\n10.0.0.0/8 b\n10.1.0.0/16 b\n10.1.2.0/24 a\n10.1.2.3 a\n::/1 a\n::/2 ab\n::/3 ab\n"
+        b"aggregate\ndump\nroute 10.1.2.3\nroute 10.1.3.3\naggregate\n",
+        b"3\n0.0.0.0/0 a\n10.0.0.0/8 b\n10.1.2.0/24 a\n::/1 a\n::/2 ab\n"
+        b"some 10.1.2.0/24=a\nsome 10.0.0.0/8=b\n0\n",
+        b"",
+        0,
+    ),
     # Words are between any separators, and the last line needs no newline.
     (b"\tadd \r 10.0.0.0/8\t\ta \r\nget\t10.0.0.0/8", b"none\nsome a\n", b"", 0),
     # A line without words prints nothing.
@@ -165,6 +175,7 @@ BAD = (
     (b"within ::1 ::2", COMMAND),
     (b"list 1", COMMAND),
     (b"dump 1", COMMAND),
+    (b"aggregate 1", COMMAND),
     (b"len 1", COMMAND),
     # A network without a target, and with two.
     (b"::/1", COMMAND),

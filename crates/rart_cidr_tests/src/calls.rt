@@ -28,6 +28,18 @@ pub enum Ask {
     Inside(&'static str),
     /// Walks all routes, in order.
     All,
+    /// Finds the first route.
+    First,
+    /// Finds the first route after this network.
+    After(&'static str),
+    /// Finds the first route that is this network or comes after it.
+    AtOrAfter(&'static str),
+    /// Tests whether a route covers this network or lies inside it.
+    Overlaps(&'static str),
+    /// Removes the routes inside this network.
+    RemoveInside(&'static str),
+    /// Removes the routes that change no longest match.
+    Aggregate,
     /// Counts what a longest match of this network reads.
     Reads(&'static str),
     /// Makes the network of an address and a length.
@@ -53,6 +65,9 @@ pub enum Reply {
     None,
     Routes(&'static [RouteText]),
     Count(usize),
+    /// The call succeeds. A call that was refused after a part of its work returns another count when it is repeated.
+    Done,
+    Is(bool),
     /// How many nodes of the map of strides are entered, how many strides are read, and the network that is found.
     Reads(usize, usize, Option<&'static str>),
     Order(Ordering),

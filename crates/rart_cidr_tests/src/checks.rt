@@ -31,14 +31,17 @@ fn are_routes<N: Version>(routes: &[Route], wanted: &[RouteText]) -> bool {
     at == wanted.len()
 }
 
+fn is_found<N: Version>(found: Option<Route>, wanted: Reply) -> bool {
+    match (found, wanted) {
+        (Some(route), Reply::Route(text)) => is_route::<N>(route, text),
+        (None, Reply::None) => true,
+        _ => false,
+    }
+}
+
 // Whether the longest matches by descent and by lengths are both the one of the row.
 fn is_longest<N: Version>(found: (Option<Route>, Option<Route>), wanted: Reply) -> bool {
-    found.0 == found.1
-        && match (found.0, wanted) {
-            (Some(route), Reply::Route(text)) => is_route::<N>(route, text),
-            (None, Reply::None) => true,
-            _ => false,
-        }
+    found.0 == found.1 && is_found::<N>(found.0, wanted)
 }
 
 fn is_network<N: Version>(addr: u128, len: u8, wanted: Reply) -> bool {
@@ -110,6 +113,15 @@ fn walk_holds<N: Version>(
     }
 }
 
+fn count_holds(counted: Result<usize, TreeError>, wanted: Reply) -> Result<bool, TreeError> {
+    match (counted, wanted) {
+        (Ok(count), Reply::Count(wanted)) => Ok(count == wanted),
+        (Ok(_), Reply::Done) => Ok(true),
+        (Ok(_), _) => Ok(false),
+        (Err(error), _) => Err(error),
+    }
+}
+
 // Whether an edit at a network holds. A refused insertion must return its target.
 fn edit_holds<N: Version>(
     table: &mut Table<N>,
@@ -127,6 +139,7 @@ fn edit_holds<N: Version>(
             Err(error) => Err(error),
         },
         (Ask::Write(_, target), Reply::Value(wanted)) => Ok(table.write(net, target) == wanted),
+        (Ask::RemoveInside(_), wanted) => count_holds(table.take_inside(net), wanted),
         _ => Ok(false),
     }
 }
@@ -143,6 +156,9 @@ fn network_holds<N: Version>(
         (Ask::CoversAll(_), wanted) => walk_holds(table, given, Group::Covering(net), wanted),
         (Ask::Inside(_), wanted) => walk_holds(table, given, Group::Inside(net), wanted),
         (Ask::Reads(_), wanted) => Ok(are_reads(table, net, wanted)),
+        (Ask::After(_), wanted) => Ok(is_found::<N>(table.after(net), wanted)),
+        (Ask::AtOrAfter(_), wanted) => Ok(is_found::<N>(table.at_or_after(net), wanted)),
+        (Ask::Overlaps(_), Reply::Is(wanted)) => Ok(table.overlaps(net) == wanted),
         (Ask::Supernet(_, len), wanted) => Ok(is_supernet::<N>(net, len, wanted)),
         _ => Ok(false),
     }
@@ -177,17 +193,19 @@ pub fn row_holds<N: Version>(
     row: &Row,
 ) -> Result<bool, TreeError> {
     match row.0 {
-        Ask::Insert(text, _) | Ask::Remove(text) | Ask::Write(text, _) => {
+        Ask::Insert(text, _) | Ask::Remove(text) | Ask::Write(text, _) | Ask::RemoveInside(text) =>
             match network_of::<N>(text) {
                 Some(net) => edit_holds(table, net, row),
                 None => Ok(false),
-            }
-        }
+            },
         Ask::Get(text)
         | Ask::Covers(text)
         | Ask::CoversAll(text)
         | Ask::Inside(text)
         | Ask::Reads(text)
+        | Ask::After(text)
+        | Ask::AtOrAfter(text)
+        | Ask::Overlaps(text)
         | Ask::Supernet(text, _) => match network_of::<N>(text) {
             Some(net) => network_holds(table, given, net, row),
             None => Ok(false),
@@ -197,6 +215,8 @@ pub fn row_holds<N: Version>(
             None => Ok(false),
         },
         Ask::All => walk_holds(table, given, Group::All, row.1),
+        Ask::First => Ok(is_found::<N>(table.first(), row.1)),
+        Ask::Aggregate => count_holds(table.aggregate(), row.1),
         Ask::Parse(text) => Ok(is_parse_error::<N>(text, row.1)),
         Ask::Order(left, right) => Ok(is_order::<N>(left, right, row.1)),
         Ask::Clear => {

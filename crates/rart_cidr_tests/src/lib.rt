@@ -5,6 +5,8 @@
 #![tactic(auto)]
 
 #[cfg(test)]
+mod aggregates;
+#[cfg(test)]
 mod calls;
 #[cfg(test)]
 mod checks;
@@ -16,6 +18,8 @@ mod each_call;
 mod edits;
 #[cfg(test)]
 mod model;
+#[cfg(test)]
+mod neighbours;
 #[cfg(test)]
 mod nested;
 #[cfg(test)]

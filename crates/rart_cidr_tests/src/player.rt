@@ -18,7 +18,12 @@ const MOST: usize = 32;
 fn may_request(ask: Ask) -> bool {
     matches!(
         ask,
-        Ask::Insert(_, _) | Ask::Remove(_) | Ask::Inside(_) | Ask::All
+        Ask::Insert(_, _)
+            | Ask::Remove(_)
+            | Ask::Inside(_)
+            | Ask::All
+            | Ask::RemoveInside(_)
+            | Ask::Aggregate
     )
 }
 

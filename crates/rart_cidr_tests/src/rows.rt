@@ -1,7 +1,7 @@
 //! Tests that play rows on tables of both versions.
 
 use crate::player::{are_swept, assert_none_wrong, is_made_quietly};
-use crate::{each_call, edits, nested, reads, removals, walks};
+use crate::{aggregates, each_call, edits, neighbours, nested, reads, removals, walks};
 use rart_cidr::{Cidr4, Cidr6};
 
 #[test]
@@ -52,6 +52,16 @@ fn routes_of_several_strides(rt: HostRuntime) {
 }
 
 #[test]
+fn routes_next_to_networks_and_removals_of_many(rt: HostRuntime) {
+    assert_none_wrong(&rt, rt.alloc(), neighbours::FOUR, neighbours::SIX);
+}
+
+#[test]
+fn routes_that_change_no_longest_match_leave(rt: HostRuntime) {
+    assert_none_wrong(&rt, rt.alloc(), aggregates::FOUR, aggregates::SIX);
+}
+
+#[test]
 fn a_longest_match_reads_each_stride_on_its_way_once(rt: HostRuntime) {
     assert_none_wrong(&rt, rt.alloc(), reads::FOUR, reads::SIX);
 }
@@ -88,6 +98,14 @@ fn edits_of_networks_refused_in_turn_change_nothing(rt: HostRuntime) {
     assert!(rt; are_swept(alloc, edits::STRIDES_FOUR, edits::STRIDES_SIX));
     assert!(rt; are_swept(alloc, edits::FIVE_STRIDES_FOUR, edits::FIVE_STRIDES_SIX));
     assert!(rt; are_swept(alloc, reads::FOUR, reads::SIX));
+}
+
+// A refused removal or aggregation may have done a part of its work, and its repetition does the rest.
+#[test]
+fn edits_of_many_routes_refused_in_turn_are_repeated(rt: HostRuntime) {
+    let alloc = rt.alloc();
+    assert!(rt; are_swept(alloc, aggregates::REFUSED_FOUR, aggregates::REFUSED_SIX));
+    assert!(rt; are_swept(alloc, neighbours::REFUSED_FOUR, neighbours::REFUSED_SIX));
 }
 
 #[test]

@@ -57,6 +57,16 @@ impl<N: Version> Table<N> {
         self.routes.remove(&cidr(net))
     }
 
+    /// Removes the routes inside `net`, and returns their number.
+    pub fn take_inside(&mut self, net: Network) -> Result<usize, TreeError> {
+        self.routes.remove_within(&cidr(net))
+    }
+
+    /// Removes the routes that change no longest match, and returns their number.
+    pub fn aggregate(&mut self) -> Result<usize, TreeError> {
+        self.routes.aggregate()
+    }
+
     /// Writes the target of a stored network, and returns the old target.
     pub fn write(&mut self, net: Network, target: u64) -> Option<u64> {
         match self.routes.get_mut(&cidr(net)) {
@@ -86,6 +96,26 @@ impl<N: Version> Table<N> {
             self.routes.get(&net).copied(),
             self.routes.contains_key(&net),
         )
+    }
+
+    /// Returns the first route.
+    pub fn first(&self) -> Option<Route> {
+        route_of(self.routes.first())
+    }
+
+    /// Returns the first route after `net`.
+    pub fn after(&self, net: Network) -> Option<Route> {
+        route_of(self.routes.first_after(&cidr(net)))
+    }
+
+    /// Returns the first route that is `net` or comes after it.
+    pub fn at_or_after(&self, net: Network) -> Option<Route> {
+        route_of(self.routes.first_at_or_after(&cidr(net)))
+    }
+
+    /// Returns whether a route covers `net` or lies inside it.
+    pub fn overlaps(&self, net: Network) -> bool {
+        self.routes.overlaps(&cidr(net))
     }
 
     /// Returns the route with the longest network that contains `addr`.

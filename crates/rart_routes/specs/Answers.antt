@@ -9,7 +9,7 @@ use Rattle.rart_trie.specs.walks.Calls.{MayLackMemory}
 use Rattle.rart_parts.specs.declared.error.TreeError.{TreeError}
 use Rattle.rart_parts.specs.declared.error.TreeError.TheVariants.{Memory, Full}
 use Rattle.rart_routes.specs.Net.{net_bits, net_text}
-use Rattle.rart_routes.specs.Tables.{Inserts, MayLackMemoryAt, Removes, all_matches, all_routes}
+use Rattle.rart_routes.specs.Tables.{AggregatesBoth, Inserts, MayLackMemoryAt, Removes, all_matches, all_routes}
 use Rattle.rart_routes.specs.Tables.{all_within, longest_route, target_at}
 use Rattle.rart_routes.specs.declared.command.Command.{Command}
 use Rattle.rart_routes.specs.declared.command.Command.TheVariants as command
@@ -47,6 +47,11 @@ removed_line (Err error) = refusal_line error
 abbrev pub loaded_line : Result (Option (ArrayKey TARGET_SIZE)) (Refused (ArrayKey TARGET_SIZE)) → List ℕ
 loaded_line (Ok old) = []
 loaded_line (Err refused) = refusal_line refused.error
+
+-- the line for a number of routes that left, or for a refusal
+abbrev pub count_line : Result ℕ TreeError → List ℕ
+count_line (Ok count) = decimal count ++ 10 ∷ []
+count_line (Err error) = refusal_line error
 
 -- a route as a word
 abbrev pub route_word : Net × ArrayKey TARGET_SIZE → List ℕ
@@ -104,6 +109,8 @@ PrintsAnswer command.List old line new = IsOfWalk (IsLineOf (all_routes old)) (M
     × (new ≡ old)
 PrintsAnswer command.Dump old lines new = IsOfWalk (IsDumpOf (all_routes old)) (MayLackMemory (all_routes old)) lines
     × (new ≡ old)
+PrintsAnswer command.Aggregate old line new = (r : Result ℕ TreeError) × AggregatesBoth old new r
+    × (line ≡ count_line r)
 PrintsAnswer command.Len old line new = (line ≡ decimal (length old.v4 + length old.v6) ++ 10 ∷ []) × (new ≡ old)
 
 -- an output grew by the line for these routes

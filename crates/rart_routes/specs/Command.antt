@@ -32,6 +32,7 @@ verb_of name =
     else if bytes_eq name (codes "within") then Some verb.Within
     else if bytes_eq name (codes "list") then Some verb.List
     else if bytes_eq name (codes "dump") then Some verb.Dump
+    else if bytes_eq name (codes "aggregate") then Some verb.Aggregate
     else if bytes_eq name (codes "len") then Some verb.Len
     else None
 
@@ -92,6 +93,8 @@ IsCommandOf verb.List operands (Ok command.List) = operands ≡ []
 IsCommandOf verb.List operands (Err e) = (operands ≢ []) × (e ≡ error.Command)
 IsCommandOf verb.Dump operands (Ok command.Dump) = operands ≡ []
 IsCommandOf verb.Dump operands (Err e) = (operands ≢ []) × (e ≡ error.Command)
+IsCommandOf verb.Aggregate operands (Ok command.Aggregate) = operands ≡ []
+IsCommandOf verb.Aggregate operands (Err e) = (operands ≢ []) × (e ≡ error.Command)
 IsCommandOf verb.Len operands (Ok command.Len) = operands ≡ []
 IsCommandOf verb.Len operands (Err e) = (operands ≢ []) × (e ≡ error.Command)
 -- no other command

@@ -1,14 +1,18 @@
 -- What calls of a table of IPv4 and one of IPv6 networks answer, and what they leave.
-use Rattle.std.specs.Prelude.{◌≡◌, ◌++◌, ℕ, List, [], Option, Result, option_map}
+use Rattle.std.specs.Prelude.{◌≡◌, ◌++◌, ◌+◌, ◌⊎◌, ℕ, Bool, List, [], Option, Result, Ok, Err, nat_eq, option_map}
+use Rattle.std.specs.Cmp.Lexicographic.{pointwise}
+use Rattle.std.specs.Ordering.{on}
 use Rattle.std.specs.Net.Addr.{ipv4_octets, ipv6_octets}
 use Rattle.std.specs.declared.net.ip_addr.IpAddr.{IpAddr}
 use Rattle.std.specs.declared.net.ip_addr.IpAddr.TheVariants as addr
+use Rattle.rart_keys.specs.ArrayKeyBytes.{array_key_bytes}
 use Rattle.rart_keys.specs.Filters.{below, longest_match, matches}
 use Rattle.rart_keys.specs.SortedMap.{lookup}
 use Rattle.rart_keys.specs.declared.keys.array_key.ArrayKey.{ArrayKey}
 use Rattle.rart_trie.specs.declared.refused.Refused.{Refused}
 use Rattle.rart_trie.specs.walks.Calls.{MayLackMemory}
 use Rattle.rart_parts.specs.declared.error.TreeError.{TreeError}
+use Rattle.rart_cidr.specs.Aggregates.{Aggregates}
 use Rattle.rart_cidr.specs.Bits.{bits_of}
 use Rattle.rart_cidr.specs.Edits.{InsertsRoute, RemovesRoute}
 use Rattle.rart_cidr.specs.Networks.{cidr_bits}
@@ -37,6 +41,17 @@ Inserts (V6 net) target old new result = InsertsRoute (cidr_bits net) target old
 abbrev pub Removes : Net → Tables → Tables → Result (Option (ArrayKey TARGET_SIZE)) TreeError → Type 0
 Removes (V4 net) old new result = RemovesRoute (cidr_bits net) old.v4 new.v4 result × (new.v6 ≡ old.v6)
 Removes (V6 net) old new result = RemovesRoute (cidr_bits net) old.v6 new.v6 result × (new.v4 ≡ old.v4)
+
+-- whether two targets are equal
+abbrev pub same_target : ArrayKey TARGET_SIZE → ArrayKey TARGET_SIZE → Bool
+same_target = on array_key_bytes (pointwise nat_eq)
+
+-- both tables lose the routes that change no longest match. On Err one of them lost only some, or none
+abbrev pub AggregatesBoth : Tables → Tables → Result ℕ TreeError → Type 0
+AggregatesBoth old new (Ok count) = (n m : ℕ) × Aggregates same_target old.v4 new.v4 (Ok n)
+    × Aggregates same_target old.v6 new.v6 (Ok m) × (count ≡ n + m)
+AggregatesBoth old new (Err error) = (Aggregates same_target old.v4 new.v4 (Err error) × (new.v6 ≡ old.v6))
+    ⊎ (((n : ℕ) × Aggregates same_target old.v4 new.v4 (Ok n)) × Aggregates same_target old.v6 new.v6 (Err error))
 
 -- the route with the longest network that contains an address
 abbrev pub longest_route : IpAddr → Tables → Option ((ℕ × List ℕ) × ArrayKey TARGET_SIZE)

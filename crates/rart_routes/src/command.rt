@@ -22,6 +22,7 @@ pub enum Verb {
     Within,
     List,
     Dump,
+    Aggregate,
     Len,
 }
 
@@ -48,6 +49,8 @@ pub enum Command {
     List,
     /// Finds all routes, and prints them as lines that load them.
     Dump,
+    /// Removes the routes that change no longest match, and counts them.
+    Aggregate,
     /// Counts the routes.
     Len,
 }
@@ -91,6 +94,8 @@ fn parse_verb(name: &[u8]) -> Option<Verb>
         Some(Verb::List)
     } else if name == b"dump".as_slice() {
         Some(Verb::Dump)
+    } else if name == b"aggregate".as_slice() {
+        Some(Verb::Aggregate)
     } else if name == b"len".as_slice() {
         Some(Verb::Len)
     } else {
@@ -133,6 +138,10 @@ fn parse_operands(verb: Verb, operands: &[u8]) -> Result<Command, LineError>
         },
         Verb::Dump => match next_word(operands) {
             None => Ok(Command::Dump),
+            Some(_) => Err(LineError::Command),
+        },
+        Verb::Aggregate => match next_word(operands) {
+            None => Ok(Command::Aggregate),
             Some(_) => Err(LineError::Command),
         },
         Verb::Len => match next_word(operands) {

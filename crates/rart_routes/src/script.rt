@@ -181,6 +181,10 @@ fn execute<W: Write>(tables: &mut Tables, command: Command, output: &mut W) -> i
             Ok(routes) => write_dump(output, routes),
             Err(error) => write_refusal(output, error),
         },
+        Command::Aggregate => match tables.aggregate() {
+            Ok(count) => writeln!(output, "{count}"),
+            Err(error) => write_refusal(output, error),
+        },
         Command::Len => writeln!(output, "{}", tables.len()),
     }
 }

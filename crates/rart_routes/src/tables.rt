@@ -4,7 +4,7 @@ ghost use Rattle.std.specs.Option.{option_copied};
 ghost use Rattle.rart_trie.specs.walks.Calls.{MayLackMemory};
 ghost use Rattle.rart_routes.specs.Found.{found_left};
 ghost use Rattle.rart_routes.specs.Net.{net_bits};
-ghost use Rattle.rart_routes.specs.Tables.{Inserts, MayLackMemoryAt, Removes};
+ghost use Rattle.rart_routes.specs.Tables.{AggregatesBoth, Inserts, MayLackMemoryAt, Removes};
 ghost use Rattle.rart_routes.specs.Tables.{all_matches, all_routes, all_within, longest_route, no_routes, target_at};
 
 use crate::found::{Both, Found};
@@ -75,6 +75,24 @@ impl Tables {
         match net {
             Net::V4(net) => self.v4.remove(net),
             Net::V6(net) => self.v6.remove(net),
+        }
+    }
+
+    /// Removes the routes of both tables that change no longest match, and returns how many there were.
+    ///
+    /// # Errors
+    ///
+    /// Those of [`CidrTable4::aggregate`], which says what is left of the table that it names. The IPv4 routes come first.
+    pub fn aggregate(&mut self) -> Result<usize, TreeError>
+        ensures { AggregatesBoth self.old self.new result }
+    {
+        let before = self.len();
+        if let Err(error) = self.v4.aggregate() {
+            return Err(error);
+        }
+        match self.v6.aggregate() {
+            Ok(_) => Ok(before - self.len()),
+            Err(error) => Err(error),
         }
     }
 

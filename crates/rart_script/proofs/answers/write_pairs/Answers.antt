@@ -16,7 +16,7 @@ loop-key-init g c =
     c.as_ref.ensures c.in_ok-write_pair.ensures
 
 pub loop-key-preserved : goal.loop-key-preserved
-loop-key-preserved g c = pairs-next (ap (pairs_in array_key_bytes) c.in-Some-2.ensures.steps.0)
+loop-key-preserved g c = pairs-next _ (ap (pairs_in array_key_bytes) c.in-Some-2.ensures.steps.0)
     c.as_ref-in-loop-key.ensures c.loop-key.invariant c.in_ok-write.ensures.bytes c.in_ok-write_pair-2.ensures
 
 pub returns : goal.returns

@@ -1,0 +1,201 @@
+//! Rows of the routes next to a network, of tests whether a network meets any, and of edits of many routes.
+
+use crate::calls::{Ask, NEW, Reply, Row};
+
+/// Rows of IPv4.
+pub static FOUR: &[Row] = &[
+    (Ask::First, Reply::None),
+    (Ask::After("0.0.0.0/0"), Reply::None),
+    (Ask::AtOrAfter("0.0.0.0/0"), Reply::None),
+    (Ask::Overlaps("0.0.0.0/0"), Reply::Is(false)),
+    (Ask::RemoveInside("0.0.0.0/0"), Reply::Count(0)),
+    (Ask::Insert("192.0.2.1/32", 6), NEW),
+    (Ask::Insert("128.0.0.0/1", 5), NEW),
+    (Ask::Insert("10.128.0.0/9", 4), NEW),
+    (Ask::Insert("10.1.2.0/23", 3), NEW),
+    (Ask::Insert("10.1.0.0/16", 2), NEW),
+    (Ask::Insert("10.0.0.0/8", 1), NEW),
+    (Ask::First, Reply::Route(("10.0.0.0/8", 1))),
+    (Ask::After("0.0.0.0/0"), Reply::Route(("10.0.0.0/8", 1))),
+    (Ask::After("10.0.0.0/8"), Reply::Route(("10.1.0.0/16", 2))),
+    (Ask::After("10.1.0.0/16"), Reply::Route(("10.1.2.0/23", 3))),
+    (Ask::After("10.1.2.0/23"), Reply::Route(("10.128.0.0/9", 4))),
+    (Ask::After("10.128.0.0/9"), Reply::Route(("128.0.0.0/1", 5))),
+    (Ask::After("128.0.0.0/1"), Reply::Route(("192.0.2.1/32", 6))),
+    (Ask::After("192.0.2.1/32"), Reply::None),
+    (Ask::After("255.255.255.255/32"), Reply::None),
+    (Ask::After("10.1.0.0/17"), Reply::Route(("10.1.2.0/23", 3))),
+    (Ask::After("10.1.2.0/24"), Reply::Route(("10.128.0.0/9", 4))),
+    (
+        Ask::AtOrAfter("10.0.0.0/15"),
+        Reply::Route(("10.1.0.0/16", 2)),
+    ),
+    (
+        Ask::AtOrAfter("10.1.0.0/16"),
+        Reply::Route(("10.1.0.0/16", 2)),
+    ),
+    (Ask::AtOrAfter("0.0.0.0/0"), Reply::Route(("10.0.0.0/8", 1))),
+    (
+        Ask::AtOrAfter("10.1.2.0/24"),
+        Reply::Route(("10.128.0.0/9", 4)),
+    ),
+    (Ask::AtOrAfter("255.255.255.255/32"), Reply::None),
+    (Ask::Overlaps("0.0.0.0/0"), Reply::Is(true)),
+    (Ask::Overlaps("10.0.0.0/7"), Reply::Is(true)),
+    (Ask::Overlaps("10.2.0.0/16"), Reply::Is(true)),
+    (Ask::Overlaps("192.0.2.0/24"), Reply::Is(true)),
+    (Ask::Overlaps("128.0.0.0/1"), Reply::Is(true)),
+    (Ask::Overlaps("10.1.2.0/23"), Reply::Is(true)),
+    (Ask::Overlaps("11.0.0.0/8"), Reply::Is(false)),
+    (Ask::Overlaps("64.0.0.0/2"), Reply::Is(false)),
+    (Ask::Overlaps("12.0.0.0/6"), Reply::Is(false)),
+    (Ask::Overlaps("127.0.0.0/8"), Reply::Is(false)),
+    (Ask::Insert("10.1.2.0/24", 8), NEW),
+    (Ask::Insert("11.0.0.0/8", 9), NEW),
+    (Ask::Get("10.1.2.0/24"), Reply::Value(Some(8))),
+    (Ask::Len, Reply::Count(8)),
+    (Ask::RemoveInside("10.1.0.0/16"), Reply::Count(3)),
+    (
+        Ask::All,
+        Reply::Routes(&[
+            ("10.0.0.0/8", 1),
+            ("10.128.0.0/9", 4),
+            ("11.0.0.0/8", 9),
+            ("128.0.0.0/1", 5),
+            ("192.0.2.1/32", 6),
+        ]),
+    ),
+    (Ask::RemoveInside("10.1.0.0/16"), Reply::Count(0)),
+    (Ask::RemoveInside("10.0.0.0/7"), Reply::Count(3)),
+    (
+        Ask::All,
+        Reply::Routes(&[("128.0.0.0/1", 5), ("192.0.2.1/32", 6)]),
+    ),
+    (Ask::RemoveInside("0.0.0.0/0"), Reply::Count(2)),
+    (Ask::Len, Reply::Count(0)),
+    (Ask::First, Reply::None),
+];
+
+/// Rows of IPv6.
+pub static SIX: &[Row] = &[
+    (Ask::First, Reply::None),
+    (Ask::After("::/0"), Reply::None),
+    (Ask::AtOrAfter("::/0"), Reply::None),
+    (Ask::Overlaps("::/0"), Reply::Is(false)),
+    (Ask::RemoveInside("::/0"), Reply::Count(0)),
+    (Ask::Insert("fe80::1/128", 6), NEW),
+    (Ask::Insert("8000::/1", 5), NEW),
+    (Ask::Insert("2001:db8:8000::/33", 4), NEW),
+    (Ask::Insert("2001:db8:1:2::/63", 3), NEW),
+    (Ask::Insert("2001:db8:1::/48", 2), NEW),
+    (Ask::Insert("2001:db8::/32", 1), NEW),
+    (Ask::First, Reply::Route(("2001:db8::/32", 1))),
+    (Ask::After("::/0"), Reply::Route(("2001:db8::/32", 1))),
+    (
+        Ask::After("2001:db8::/32"),
+        Reply::Route(("2001:db8:1::/48", 2)),
+    ),
+    (
+        Ask::After("2001:db8:1::/48"),
+        Reply::Route(("2001:db8:1:2::/63", 3)),
+    ),
+    (
+        Ask::After("2001:db8:1:2::/63"),
+        Reply::Route(("2001:db8:8000::/33", 4)),
+    ),
+    (
+        Ask::After("2001:db8:8000::/33"),
+        Reply::Route(("8000::/1", 5)),
+    ),
+    (Ask::After("8000::/1"), Reply::Route(("fe80::1/128", 6))),
+    (Ask::After("fe80::1/128"), Reply::None),
+    (
+        Ask::After("ffff:ffff:ffff:ffff:ffff:ffff:ffff:ffff/128"),
+        Reply::None,
+    ),
+    (
+        Ask::After("2001:db8:1::/49"),
+        Reply::Route(("2001:db8:1:2::/63", 3)),
+    ),
+    (
+        Ask::After("2001:db8:1:2::/64"),
+        Reply::Route(("2001:db8:8000::/33", 4)),
+    ),
+    (
+        Ask::AtOrAfter("2001:db8::/47"),
+        Reply::Route(("2001:db8:1::/48", 2)),
+    ),
+    (
+        Ask::AtOrAfter("2001:db8:1::/48"),
+        Reply::Route(("2001:db8:1::/48", 2)),
+    ),
+    (Ask::AtOrAfter("::/0"), Reply::Route(("2001:db8::/32", 1))),
+    (
+        Ask::AtOrAfter("2001:db8:1:2::/64"),
+        Reply::Route(("2001:db8:8000::/33", 4)),
+    ),
+    (
+        Ask::AtOrAfter("ffff:ffff:ffff:ffff:ffff:ffff:ffff:ffff/128"),
+        Reply::None,
+    ),
+    (Ask::Overlaps("::/0"), Reply::Is(true)),
+    (Ask::Overlaps("2001:db0::/28"), Reply::Is(true)),
+    (Ask::Overlaps("2001:db8:2::/48"), Reply::Is(true)),
+    (Ask::Overlaps("fe80::/64"), Reply::Is(true)),
+    (Ask::Overlaps("8000::/1"), Reply::Is(true)),
+    (Ask::Overlaps("2001:db8:1:2::/63"), Reply::Is(true)),
+    (Ask::Overlaps("2001:db9::/32"), Reply::Is(false)),
+    (Ask::Overlaps("4000::/2"), Reply::Is(false)),
+    (Ask::Overlaps("2001:dc0::/26"), Reply::Is(false)),
+    (Ask::Overlaps("7f00::/8"), Reply::Is(false)),
+    (Ask::Insert("2001:db8:1:2::/64", 8), NEW),
+    (Ask::Insert("2001:db9::/32", 9), NEW),
+    (Ask::Get("2001:db8:1:2::/64"), Reply::Value(Some(8))),
+    (Ask::Len, Reply::Count(8)),
+    (Ask::RemoveInside("2001:db8:1::/48"), Reply::Count(3)),
+    (
+        Ask::All,
+        Reply::Routes(&[
+            ("2001:db8::/32", 1),
+            ("2001:db8:8000::/33", 4),
+            ("2001:db9::/32", 9),
+            ("8000::/1", 5),
+            ("fe80::1/128", 6),
+        ]),
+    ),
+    (Ask::RemoveInside("2001:db8:1::/48"), Reply::Count(0)),
+    (Ask::RemoveInside("2001:db8::/31"), Reply::Count(3)),
+    (
+        Ask::All,
+        Reply::Routes(&[("8000::/1", 5), ("fe80::1/128", 6)]),
+    ),
+    (Ask::RemoveInside("::/0"), Reply::Count(2)),
+    (Ask::Len, Reply::Count(0)),
+    (Ask::First, Reply::None),
+];
+
+/// Removals that allocate, of IPv4: the fifth stride left is removed.
+pub static REFUSED_FOUR: &[Row] = &[
+    (Ask::Insert("1.0.0.0/8", 1), NEW),
+    (Ask::Insert("2.0.0.0/8", 2), NEW),
+    (Ask::Insert("3.0.0.0/8", 3), NEW),
+    (Ask::Insert("4.0.0.0/8", 4), NEW),
+    (Ask::Insert("5.0.0.0/8", 5), NEW),
+    (Ask::Insert("6.0.0.0/8", 6), NEW),
+    (Ask::Len, Reply::Count(6)),
+    (Ask::RemoveInside("0.0.0.0/0"), Reply::Done),
+    (Ask::Len, Reply::Count(0)),
+];
+
+/// Removals that allocate, of IPv6.
+pub static REFUSED_SIX: &[Row] = &[
+    (Ask::Insert("100::/8", 1), NEW),
+    (Ask::Insert("200::/8", 2), NEW),
+    (Ask::Insert("300::/8", 3), NEW),
+    (Ask::Insert("400::/8", 4), NEW),
+    (Ask::Insert("500::/8", 5), NEW),
+    (Ask::Insert("600::/8", 6), NEW),
+    (Ask::Len, Reply::Count(6)),
+    (Ask::RemoveInside("::/0"), Reply::Done),
+    (Ask::Len, Reply::Count(0)),
+];
