@@ -5,14 +5,13 @@ pub mod CodeLoans
 pub mod CodeSets
 pub mod Codes
 pub mod Edits
-pub mod Extensions
 pub mod Fields
 pub mod Loans
 pub mod Longest
+pub mod ManyEdits
 pub mod Matches
 pub mod NetworkLoans
 pub mod Networks
-pub mod Removals
 pub mod RouteLoans
 pub mod Routes
 pub mod Targets

@@ -82,7 +82,8 @@ impl Tables {
     ///
     /// # Errors
     ///
-    /// Those of [`CidrTable4::aggregate`], which says what is left of the table that it names. The IPv4 routes come first.
+    /// Those of [`CidrTable4::aggregate`]. The IPv4 routes come first: if one of them can't be removed, the IPv6 routes
+    /// are unchanged.
     pub fn aggregate(&mut self) -> Result<usize, TreeError>
         ensures { AggregatesBoth self.old self.new result }
     {

@@ -57,8 +57,8 @@ module _ {V : Type 0} where
   some-read bytes es ks k some e = omega (arith, some, ap length e, texts-count bytes es ks k)
 
 -- one more text is read
-pub texts-more : {K V : Type 0} (bytes : K → List ℕ) (before : List K) (text : K) {after : List K} {key : List ℕ} {value : V}
-    {rest next : List (List ℕ × V)} {all : List (List ℕ)} → after ≡ before ++ text ∷ [] → rest ≡ (key, value) ∷ next
+pub texts-more : {K V : Type 0} (bytes : K → List ℕ) (before : List K) (text : K) {after : List K} {key : List ℕ}
+    {value : V} {rest next : List (List ℕ × V)} {all : List (List ℕ)} → after ≡ before ++ text ∷ [] → rest ≡ (key, value) ∷ next
     → key ≡ terminated_key (bytes text) → all ≡ map terminated_key (map bytes before) ++ keys_of rest
     → all ≡ map terminated_key (map bytes after) ++ keys_of next
 texts-more bytes before text {after} {key} pushed steps closes read

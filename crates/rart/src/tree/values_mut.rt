@@ -44,7 +44,8 @@ impl<K: KeyTrait, V> AdaptiveRadixTree<K, V> {
     )
         requires callable { CanLend F.FnMut f.old (values_below prefix.now self.old.pairs) }
         ensures stays_callable { F.IsAlwaysCallable f.old → F.IsAlwaysCallable f.new }
-        ensures changes { ChangesBelow F.FnMut prefix.now f.old self.old.pairs self.new.pairs f.new }
+        ensures changes { ChangesBelow F.FnMut prefix.now f.old self.old.pairs
+            self.new.pairs f.new }
         ensures nodes { self.new.nodes ≡ self.old.nodes }
     {
         DefaultNode::change_values(&mut self.root, prefix, f);
@@ -100,9 +101,9 @@ impl<K: KeyTrait, V> AdaptiveRadixTree<K, V> {
         self.prefix_for_each_value_mut_k(&prefix, f);
     }
 
-    /// Calls `f` with a mutable reference to each value whose key is within two bounds, whose bytes may be more than any
-    /// key has, in the order of the keys; with none if the end is below the start. `f` must be callable with each of
-    /// these values in turn; the caller keeps it. Keys, nodes and the other values are unchanged. Makes no key,
+    /// Calls `f` with a mutable reference to each value whose key is within two bounds, whose bytes may be more than
+    /// any key has, in the order of the keys; with none if the end is below the start. `f` must be callable with each
+    /// of these values in turn; the caller keeps it. Keys, nodes and the other values are unchanged. Makes no key,
     /// allocates nothing.
     pub fn range_for_each_value_mut_by_ref_bytes<F: FnMut(&mut V)>(
         &mut self,
@@ -113,8 +114,8 @@ impl<K: KeyTrait, V> AdaptiveRadixTree<K, V> {
         requires callable { CanLend F.FnMut f.old
             (values_of (between (lent_bound start) (lent_bound end) self.old.pairs)) }
         ensures stays_callable { F.IsAlwaysCallable f.old → F.IsAlwaysCallable f.new }
-        ensures changes { ChangesBetween F.FnMut (lent_bound start.entry) (lent_bound end.entry) f.old
-            self.old.pairs self.new.pairs f.new }
+        ensures changes { ChangesBetween F.FnMut (lent_bound start.entry) (lent_bound end.entry)
+            f.old self.old.pairs self.new.pairs f.new }
         ensures nodes { self.new.nodes ≡ self.old.nodes }
     {
         DefaultNode::change_values_within(&mut self.root, start, end, f);

@@ -187,8 +187,8 @@ impl<K: KeyTrait, V> AdaptiveRadixTree<K, V> {
             .for_each_range_view_counted(start, end, f, &mut Visits::new())
     }
 
-    /// Calls `f` once with a view of the longest key that begins the bytes `probe`, which may be longer than any key, and
-    /// with its value, and returns `true`; returns `false` if there is no such key. The caller keeps `f`.
+    /// Calls `f` once with a view of the longest key that begins the bytes `probe`, which may be longer than any key,
+    /// and with its value, and returns `true`; returns `false` if there is no such key. The caller keeps `f`.
     ///
     /// # Errors
     ///

@@ -1,5 +1,6 @@
 -- Routes that leave one after the other: some are settled, and others are to come.
-use Rattle.std.proofs.Common.{◌≡◌, ℕ, zero, suc, ◌+◌, ◌⊎◌, ⊎_elim, inl, inr, arith, Bool, List, [], ◌∷◌, ◌++◌, true, false, not}
+use Rattle.std.proofs.Common.{◌≡◌, ℕ, zero, suc, ◌+◌, ◌⊎◌, ⊎_elim, inl, inr, arith, Bool, List, [], ◌∷◌, ◌++◌, true, false}
+use Rattle.std.proofs.Common.{not}
 use Rattle.std.proofs.Common.{refl, sym, ap, ◌∙◌, Option, Some, None, if◌then◌else◌, subst, length, take}
 use Rattle.std.specs.Prelude.{option_map}
 use Rattle.std.proofs.lemmas.List.Elements.{filter-append}
@@ -135,7 +136,8 @@ module _ {T : Type 0} where
   lookup-later n t [] ys a h = h
   lookup-later n t (x ∷ xs) ys a h = lookup-skip n t x (xs ++ ys) a.0 (lookup-later n t xs ys a.1 h)
 
-  lookup-earlier : (n : List ℕ) (t : T) (xs ys : List (List ℕ × T)) → lookup n xs ≡ Some t → lookup n (xs ++ ys) ≡ Some t
+  lookup-earlier : (n : List ℕ) (t : T) (xs ys : List (List ℕ × T)) → lookup n xs ≡ Some t
+      → lookup n (xs ++ ys) ≡ Some t
   lookup-earlier n t [] ys h = absurd (let e = h in cc)
   lookup-earlier n t (x ∷ xs) ys h = elim (bytes_eq x.0 n) as (λ b. (if b then Some x.1 else lookup n xs) ≡ Some t
       → (if b then Some x.1 else lookup n (xs ++ ys)) ≡ Some t) [
@@ -217,7 +219,8 @@ module _ {T : Type 0} where
         = ap (longest_match k) others ∙ longest-append k (without k kept) ((n, t) ∷ [])
         ∙ (let f = not-inside-before n k less in rw f refl) in
         g k s u l (ap (option_map (λ e. e.1)) (sym value) ∙ v))
-        (λ l. elim (bytes_eq n k) as (λ b. bytes_eq n k ≡ b → (if b then Some t else None) ≡ Some s → same s u ≡ false) [
+        (λ l. elim (bytes_eq n k)
+        as (λ b. bytes_eq n k ≡ b → (if b then Some t else None) ≡ Some s → same s u ≡ false) [
           | true ↦ λ m e. let key = bytes_eq-equal n k m in
               let value : longest_value n (without n (kept ++ (n, t) ∷ todo)) ≡ Some u
               = ap (option_map (λ e. e.1)) (cover-before n t kept todo a

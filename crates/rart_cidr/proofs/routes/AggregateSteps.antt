@@ -77,7 +77,8 @@ module _ {T : Type 0} where
         ap (pairs_from true n) here ∙ split-from n f.0 s.kept f.1 (subst IsAscending here a) ∙ sym f.2
 
     module _ (n : List ℕ) (old cur : List (List ℕ × T)) (at : Option (List ℕ)) (b : IsAscending old)
-        (a : IsAscending cur) (s : Aggregating same old cur (Some n)) (e : at ≡ first_key (pairs_from false n cur)) where
+        (a : IsAscending cur) (s : Aggregating same old cur (Some n))
+        (e : at ≡ first_key (pairs_from false n cur)) where
       -- the route at n, and those after it
       now : (t : T) × (rest : List (List ℕ × T)) × (s.todo ≡ (n, t) ∷ rest)
       now = first-is n s.todo s.at_is
@@ -123,18 +124,19 @@ module _ {T : Type 0} where
 
       step-removed : AreCompared same (lookup n cur) (longest_value n (without n cur)) true
           → Aggregating same old (without n cur) at
-      step-removed c = let u = compared-true same now.0 (longest_value n (without n cur)) (lookup n cur) target c in record {
-        done = s.done ++ (n, now.0) ∷ [];
-        kept = s.kept;
-        todo = now.1;
-        old_is = before;
-        cur_is = ap (without n) here ∙ split-without n now.0 s.kept now.1 ascends;
-        at_is = after;
-        keeps = keeps-removed same n now.0 u.0 s.done s.kept now.1 s.keeps ascends
-            (ap (λ z. longest_value n (without n z)) (sym here) ∙ u.1) u.2;
-        needed = s.needed;
-        fewer = let one = longer-done in let f = s.fewer in omega (arith, one, f);
-      }
+      step-removed c = let u = compared-true same now.0 (longest_value n (without n cur)) (lookup n cur) target c in
+          record {
+            done = s.done ++ (n, now.0) ∷ [];
+            kept = s.kept;
+            todo = now.1;
+            old_is = before;
+            cur_is = ap (without n) here ∙ split-without n now.0 s.kept now.1 ascends;
+            at_is = after;
+            keeps = keeps-removed same n now.0 u.0 s.done s.kept now.1 s.keeps ascends
+                (ap (λ z. longest_value n (without n z)) (sym here) ∙ u.1) u.2;
+            needed = s.needed;
+            fewer = let one = longer-done in let f = s.fewer in omega (arith, one, f);
+          }
 
       smaller : (new : List (List ℕ × T)) → todo_at at new ≡ now.1
           → length (todo_at at new) < length (todo_at (Some n) cur)

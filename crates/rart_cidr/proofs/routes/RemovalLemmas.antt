@@ -1,5 +1,6 @@
 -- The first route inside a network, and what is left without it.
-use Rattle.std.proofs.Common.{◌≡◌, ℕ, ◌+◌, ◌<◌, ◌⊎◌, inl, inr, arith, length, Bool, List, [], ◌∷◌, ◌++◌, true, false, not}
+use Rattle.std.proofs.Common.{◌≡◌, ℕ, ◌+◌, ◌<◌, ◌⊎◌, inl, inr, arith, length, Bool, List, [], ◌∷◌, ◌++◌, true, false}
+use Rattle.std.proofs.Common.{not}
 use Rattle.std.proofs.Common.{refl, sym, ap, ◌∙◌, Option, Some, None, if◌then◌else◌}
 use Rattle.std.specs.Prelude.{◌≢◌, ◌↔◌, is_some, option_map, slice_get, IsTrue}
 use Rattle.std.proofs.lemmas.List.{append_assoc}
@@ -8,7 +9,7 @@ use Rattle.rart_keys.specs.Filters.{below, last_or, longest_match, matches, with
 use Rattle.rart_keys.specs.Ranges.{pairs_from}
 use Rattle.rart_keys.specs.SortedMap.{IsAscending, without}
 use Rattle.rart_keys.proofs.strings.ByteOrder.{bytes_eq-equal}
-use Rattle.rart_cidr.specs.Removals.{LeavesRest}
+use Rattle.rart_cidr.specs.ManyEdits.{LeavesRest}
 use Rattle.rart_cidr.specs.Walks.{up_to_outside}
 use Rattle.rart_cidr.proofs.routes.SplitLemmas.{split-without}
 use Rattle.rart_cidr.proofs.walks.FilterLemmas.{ascending_filter, up_to_outside_is}
@@ -46,7 +47,8 @@ module _ {T : Type 0} where
         = ap first_key (sym (head-outside q n (pairs_from true q v) h b) ∙ up_to_outside_is q v a)
 
     pub within-none : None ≡ first_key (pairs_from true q v) → None ≡ first_key (below q v)
-    within-none h = ap first_key (ap (up_to_outside q) (sym (no-first (pairs_from true q v) h)) ∙ up_to_outside_is q v a)
+    within-none h = ap first_key (ap (up_to_outside q) (sym (no-first (pairs_from true q v) h))
+        ∙ up_to_outside_is q v a)
 
   some-first : (n : List ℕ) (es : List (List ℕ × T)) → Some n ≡ first_key es → es ≢ []
   some-first n [] h = absurd (let x = h in cc)
@@ -131,7 +133,8 @@ module _ {T : Type 0} where
         ∙ ap (λ z. (z, e.1) ∷ without z (e ∷ es)) (sym same),
   )
 
-  module _ (q n : List ℕ) (old cur : List (List ℕ × T)) (a : IsAscending cur) (h : Some n ≡ first_key (below q cur)) where
+  module _ (q n : List ℕ) (old cur : List (List ℕ × T)) (a : IsAscending cur)
+      (h : Some n ≡ first_key (below q cur)) where
     first-of : (t : T) × (below q cur ≡ (n, t) ∷ below q (without n cur))
     first-of = let r = removed-first n (below q cur) (ascending_filter (begins q) cur a) h in
         (r.0, r.1 ∙ ap (λ z. (n, r.0) ∷ z) (sym (below-commutes q n cur)))

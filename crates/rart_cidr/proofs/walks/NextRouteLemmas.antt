@@ -25,7 +25,8 @@ use Rattle.std.proofs.lemmas.List.{append-nil}
 module _ {K S : Type 0} (bytes : K → List ℕ) where
   -- the keys of a list, by its first
   first-keys : (ahead : Option K) (es : List (List ℕ × S))
-      → option_map bytes ahead ≡ option_map (λ e. e.0) (slice_get es 0) → keys_ahead bytes ahead (drop 1 es) ≡ keys_of es
+      → option_map bytes ahead ≡ option_map (λ e. e.0) (slice_get es 0)
+      → keys_ahead bytes ahead (drop 1 es) ≡ keys_of es
   first-keys None [] h = refl
   first-keys None (e ∷ es) h = absurd (let x = h in cc)
   first-keys (Some key) [] h = absurd (let x = h in cc)

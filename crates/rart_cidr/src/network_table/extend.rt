@@ -6,7 +6,7 @@ ghost use Rattle.rart_keys.specs.SortedMap.{put};
 ghost use Rattle.rart.specs.BulkLoads.{Reads, ReadsAll};
 ghost use Rattle.rart.specs.Steps.{pairs_in};
 ghost use Rattle.rart_cidr.specs.Edits.{MayRefuseRoute};
-ghost use Rattle.rart_cidr.specs.Extensions.{PutsRoutesUntil};
+ghost use Rattle.rart_cidr.specs.ManyEdits.{PutsRoutesUntil};
 
 use crate::cidr::Network;
 use crate::network_table::NetworkTable;
@@ -25,7 +25,8 @@ impl<N: Network, T: Drop> NetworkTable<N, T> {
     ) -> Result<Self, Refused<(N, T)>>
         requires { (s : I.IntoIter) → I.into_iter_gives routes s → I.IntoIter.can_next s
             × IsFinite (I.IntoIter.remaining s) }
-        ensures routes { IfOk result (λ table. ReadsAll I.into_iter_gives I.IntoIter.next_gives routes
+        ensures routes { IfOk result (λ table.
+            ReadsAll I.into_iter_gives I.IntoIter.next_gives routes
             (λ xs. table ≡ put_all (pairs_in N.bits xs) [])) }
         ensures refused { IfErr result (λ refused.
             Reads I.into_iter_gives I.IntoIter.next_gives routes

@@ -263,6 +263,6 @@ module _ {V W : Type 0} where
   place-equal t u l i c e f =
       let whole_left : l ≡ l ++ [] = sym (append-nil l) in
       place-aligned {t = t} {u = u} {p = l} {l = []} {r = []} {a = t} {b = u} {i = i} {j = i} c refl refl
-      (place-common {t = t} {u = u} {p = []} {l = []} {r = []} {k = l} {q = prefix_of u} {a = t} {b = u} {i = i} {j = i} l
-      whole_left (sym f ∙ sym e ∙ whole_left)
+      (place-common {t = t} {u = u} {p = []} {l = []} {r = []} {k = l} {q = prefix_of u} {a = t} {b = u} {i = i} {j = i}
+      l whole_left (sym f ∙ sym e ∙ whole_left)
       (place-start t u l (prefix_of u) i c e refl))

@@ -49,7 +49,8 @@ impl<'a, K: KeyTrait, V, C: Count> Seen<'a, K, V, C> {
     }
 
     /// Calls `f` once with a view of the longest key that begins the bytes `probe`, which may be longer than any key,
-    /// cut at the branch points, and with its value. Returns whether there is such a key. `f` must be callable with that key. The caller keeps `f`.
+    /// cut at the branch points, and with its value. Returns whether there is such a key. `f` must be callable with that
+    /// key. The caller keeps `f`.
     ///
     /// # Errors
     ///
@@ -83,9 +84,7 @@ impl<'a, K: KeyTrait, V, C: Count> Seen<'a, K, V, C> {
         Ok(true)
     }
 
-    /// Calls `f` as
-    /// [`with_longest_prefix_match_view_by_ref_bytes_counted`](Self::with_longest_prefix_match_view_by_ref_bytes_counted) does,
-    /// and consumes it.
+    /// Calls `f` as `with_longest_prefix_match_view_by_ref_bytes_counted` does, and consumes it.
     ///
     /// # Errors
     ///

@@ -1,7 +1,10 @@
 use Rattle.rart.proofs.tree.AdaptiveRadixTree.try_prefix_match_for_each_by_ref_bytes.Goals as goal
 
-pub try_prefix_match_for_each_by_ref_bytes_counted-requires : goal.try_prefix_match_for_each_by_ref_bytes_counted-requires
-try_prefix_match_for_each_by_ref_bytes_counted-requires g c = record { callable = rw c.seen.ensures.pairs c.requires.callable }
+pub try_prefix_match_for_each_by_ref_bytes_counted-requires :
+    goal.try_prefix_match_for_each_by_ref_bytes_counted-requires
+try_prefix_match_for_each_by_ref_bytes_counted-requires g c = record {
+  callable = rw c.seen.ensures.pairs c.requires.callable;
+}
 
 pub returns-clause-calls : goal.returns-clause-calls
 returns-clause-calls g c = rw (← c.seen.ensures.pairs) c.try_prefix_match_for_each_by_ref_bytes_counted.ensures.calls

@@ -8,4 +8,5 @@ with_longest_prefix_match_view_by_ref_bytes_counted-requires g c = record {
 }
 
 pub returns-clause-calls : goal.returns-clause-calls
-returns-clause-calls g c = rw (← c.seen.ensures.pairs) c.with_longest_prefix_match_view_by_ref_bytes_counted.ensures.calls
+returns-clause-calls g c = rw (← c.seen.ensures.pairs)
+    c.with_longest_prefix_match_view_by_ref_bytes_counted.ensures.calls

@@ -59,7 +59,10 @@ overflow_sub-result g c =
     let a = aggregated g.T.PartialEq.eq c.args.self.now c.loop-at.self
     (subst (Aggregating g.T.PartialEq.eq c.args.self.now c.loop-at.self)
     (ap (option_map g.N.Network.bits) c.in_default.is) c.loop-at.invariant) in
-    let few = a.2 in let old = c.len-before.ensures.value in let new = c.len.ensures.value in omega (arith, few, old, new)
+    let few = a.2 in
+    let old = c.len-before.ensures.value in
+    let new = c.len.ensures.value in
+    omega (arith, few, old, new)
 
 pub returns : goal.returns
 returns g c =

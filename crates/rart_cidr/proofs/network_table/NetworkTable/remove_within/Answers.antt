@@ -1,7 +1,7 @@
 use Rattle.std.proofs.Common.{◌<◌, ◌≤◌, arith, length, subst, sym}
 use Rattle.std.specs.Prelude.{◌≢◌, []}
 use Rattle.rart_keys.specs.Filters.{below}
-use Rattle.rart_cidr.specs.Removals.{LeavesRest}
+use Rattle.rart_cidr.specs.ManyEdits.{LeavesRest}
 use Rattle.rart_cidr.proofs.routes.RemovalLemmas.{fewer-inside, leaves-all, leaves-more, left-none, some-inside}
 use Rattle.rart_cidr.proofs.network_table.NetworkTable.remove_within.Goals as goal
 
@@ -33,7 +33,10 @@ pub overflow_sub-result : goal.overflow_sub-result
 overflow_sub-result g c =
     let l = left-none (g.N.Network.bits c.args.net.now) c.args.self.now c.loop-found.self c.in_default.ensures
     c.loop-found.invariant in
-    let sum = l.1 in let old = c.len-before.ensures.value in let new = c.len.ensures.value in omega (arith, sum, old, new)
+    let sum = l.1 in
+    let old = c.len-before.ensures.value in
+    let new = c.len.ensures.value in
+    omega (arith, sum, old, new)
 
 pub returns : goal.returns
 returns g c =

@@ -15,7 +15,8 @@ next_before-requires-clause-code g c = c.loop-at.invariant.0.1.is_code
 
 pub next_before-requires-clause-ahead : goal.next_before-requires-clause-ahead
 next_before-requires-clause-ahead g c = let w = c.loop-at in let i = w.invariant.0 in
-    before-ahead g.K.KeyTrait.bytes c.args.strides.now.pairs c.canonical.ensures.ascending i.1.formed w.ahead i.0 (g.K.KeyTrait.bytes w.key) c.as_ref.result.now
+    before-ahead g.K.KeyTrait.bytes c.args.strides.now.pairs c.canonical.ensures.ascending i.1.formed
+    w.ahead i.0 (g.K.KeyTrait.bytes w.key) c.as_ref.result.now
     w.code i.1.ahead c.as_ref.ensures
 
 pub returns-in-Some-clause-value : goal.returns-in-Some-clause-value

@@ -25,7 +25,7 @@ use rart_trie::node::strip_prefix;
 use std::alloc::AllocError;
 use std::cmp::Ordering;
 
-/// Returns what a descending walk from `end` keeps of a visited node, or `None` if each key there is greater than `end`.
+/// Returns what a descending walk from `end` keeps of a visited node, or `None` if each key there is greater.
 // Inline, so that a step isn't stored.
 #[inline(always)]
 pub(crate) fn step_until<'a, 'k, P: Partial, V, C>(

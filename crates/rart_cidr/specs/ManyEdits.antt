@@ -1,8 +1,19 @@
--- What a removal of all routes inside a network returns, and what it leaves.
-use Rattle.std.specs.Prelude.{◌≡◌, ◌≢◌, ◌≤◌, ℕ, List, [], ◌++◌, length, Result, Ok, Err}
+-- What edits of many routes return, and what they leave.
+use Rattle.std.specs.Prelude.{◌≡◌, ◌≢◌, ◌≤◌, ℕ, List, [], ◌∷◌, ◌++◌, length, Result, Ok, Err}
+use Rattle.rart_keys.specs.BulkLists.{put_all}
 use Rattle.rart_keys.specs.Filters.{below, without_prefix}
 use Rattle.rart_parts.specs.declared.error.TreeError.{TreeError}
 use Rattle.rart_parts.specs.declared.error.TreeError.TheVariants.{Memory}
+use Rattle.rart_trie.specs.declared.refused.Refused.{Refused}
+use Rattle.rart.specs.Steps.{pairs_in}
+use Rattle.rart_cidr.specs.Edits.{MayRefuseRoute}
+
+-- of these routes all but the last were put into the table, and the error holds the last, which was refused for a
+-- reason that the new table allows
+abbrev pub PutsRoutesUntil : {N T : Type 0} → (N → List ℕ) → List (List ℕ × T) → List (N × T) → Refused (N × T)
+    → List (List ℕ × T) → Type 0
+PutsRoutesUntil {N} {T} bits old routes refused new = (before : List (N × T)) × (routes ≡ before ++ refused.value ∷ [])
+    × (new ≡ put_all (pairs_in bits before) old) × MayRefuseRoute new (bits refused.value.0) refused.error
 
 module _ {T : Type 0} where
   -- the first of the routes inside net left, and no other
