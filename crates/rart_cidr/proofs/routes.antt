@@ -1,8 +1,10 @@
 pub mod AggregateLemmas
 pub mod AggregateSteps
+pub mod CloneLemmas
 pub mod CodeKeyLemmas
 pub mod CodeMapLemmas
 pub mod EditLemmas
+pub mod EqualLemmas
 pub mod ExtensionLemmas
 pub mod LoanLemmas
 pub mod OneLemmas

@@ -1,7 +1,13 @@
 pub mod AheadLemmas
+pub mod CallWalks
 pub mod FilterLemmas
+pub mod JoinSteps
+pub mod LastLemmas
 pub mod LongestLemmas
 pub mod MatchLemmas
 pub mod NextLemmas
 pub mod NextRouteLemmas
+pub mod PositionLemmas
+pub mod RouteCallLemmas
 pub mod StartLemmas
+pub mod UnionSteps

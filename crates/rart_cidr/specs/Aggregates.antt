@@ -24,7 +24,7 @@ module _ {T : Type 0} (same : T → T → Bool) where
     pub only : (n : List ℕ) (t : T) → lookup n new ≡ Some t → lookup n old ≡ Some t
     pub matches : (q : List ℕ) → AreAlike (longest_value q old) (longest_value q new)
 
-  -- Ok: so many left, and each other one is needed. Err: some left, or none, and at least five routes are left
+  -- Ok: `count` routes were removed, and each other one is needed. Err: some or none, and at least five are left
   abbrev pub Aggregates : List (List ℕ × T) → List (List ℕ × T) → Result ℕ TreeError → Type 0
   Aggregates old new (Ok count) = KeepsMatches old new × AreNeeded new × (length new + count ≡ length old)
   Aggregates old new (Err error) = (error ≡ Memory) × KeepsMatches old new × (5 ≤ length new)

@@ -8,12 +8,11 @@ pub mod Edits
 pub mod Fields
 pub mod Loans
 pub mod Longest
-pub mod ManyEdits
 pub mod Matches
-pub mod NetworkLoans
 pub mod Networks
 pub mod RouteLoans
 pub mod Routes
+pub mod tables
 pub mod Targets
 pub mod Texts
 pub mod Walks

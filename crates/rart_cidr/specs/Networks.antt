@@ -9,7 +9,7 @@ use Rattle.rart_cidr.specs.Bits.{AreClearAfter, network}
 abbrev pub cidr_bits : {N : ℕ} → Cidr N → List ℕ
 cidr_bits net = network net.octets net.len
 
--- the network of the first n of an address's bits, if there are so many and the others are zeros
+-- the network of the first n of an address's bits, if it has n and the others are zeros
 abbrev pub IsNew : {N : Type 0} → (N → List ℕ) → List ℕ → ℕ → Result N CidrError → Type 0
 IsNew view bits n (Ok net) = (n ≤ length bits) × AreClearAfter bits n × (view net ≡ take n bits)
 IsNew view bits n (Err Length) = length bits < n

@@ -7,17 +7,24 @@ ghost use Rattle.rart_keys.specs.SortedMap.{IsAscending, lookup};
 ghost use Rattle.rart.specs.declared.tree.TheConstants.{MAX_PAIRS};
 ghost use Rattle.rart_cidr.specs.Edits.{InsertsRoute, RemovesRoute};
 ghost use Rattle.rart_cidr.specs.Longest.{IsLongestRoute, first_by_lengths};
-ghost use Rattle.rart_cidr.specs.NetworkLoans.{lends_network_target};
+ghost use Rattle.rart_cidr.specs.tables.NetworkLoans.{lends_network_target};
 
 mod aggregate;
+mod clones;
+mod equal;
 mod extend;
+mod intersect;
+mod last;
 mod matches;
 mod next;
 mod remove;
+mod retain;
 mod routes;
 mod seen;
+mod union;
 mod v4;
 mod v6;
+mod values_mut;
 
 use crate::cidr::{Cidr4, Cidr6, Network};
 pub use crate::network_table::matches::Matches;

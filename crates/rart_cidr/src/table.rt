@@ -10,6 +10,7 @@ ghost use Rattle.rart_cidr.specs.Routes.{stride_at};
 
 mod by_lengths;
 mod get_mut;
+mod last;
 mod longest;
 mod matches;
 mod next;
@@ -70,6 +71,11 @@ impl<K: KeyTrait, T> BitTable<K, T> {
             len: 0,
             alloc,
         }
+    }
+
+    // Returns the allocator.
+    pub(crate) fn alloc(&self) -> Global {
+        self.alloc
     }
 
     /// Returns the number of routes.

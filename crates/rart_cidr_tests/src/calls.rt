@@ -5,6 +5,9 @@ use std::cmp::Ordering;
 /// A network and its target.
 pub type RouteText = (&'static str, u64);
 
+/// A network, its target in the table, and that in the other table.
+pub type PairText = (&'static str, Option<u64>, Option<u64>);
+
 /// A call.
 #[derive(Clone, Copy)]
 pub enum Ask {
@@ -54,6 +57,28 @@ pub enum Ask {
     Clear,
     /// Counts the routes.
     Len,
+    /// Finds the last route.
+    Last,
+    /// Clears the other table, and inserts these routes into it, in this order.
+    Other(&'static [RouteText]),
+    /// Compares the table with the other one, either way round, by `==` and by `!=`.
+    Equals,
+    /// Replaces the other table by a clone of the table.
+    CloneToOther,
+    /// Replaces the table by a clone of the other one.
+    CloneFromOther,
+    /// Walks the networks that both tables have, by both forms of the call.
+    Intersect,
+    /// Walks the networks that either table has, by both forms of the call.
+    Union,
+    /// Writes 1000 times each target and the length of its network, by `for_each_value_mut`.
+    WriteEach,
+    /// The same by `for_each_value_mut_by_ref`.
+    WriteEachByRef,
+    /// Sets bit 8 of each target and keeps the routes with odd ones, by `retain`.
+    KeepOdd,
+    /// The same by `retain_by_ref`.
+    KeepOddByRef,
 }
 
 /// What the call returns.
@@ -64,6 +89,7 @@ pub enum Reply {
     Route(RouteText),
     None,
     Routes(&'static [RouteText]),
+    Pairs(&'static [PairText]),
     Count(usize),
     /// The call succeeds. A call that was refused after a part of its work returns another count when it is repeated.
     Done,

@@ -1,6 +1,9 @@
 //! Whether the call of a row returns what the row says.
 
+mod whole;
+
 use crate::calls::{Ask, Reply, RouteText, Row};
+use crate::checks::whole::whole_row_holds;
 use crate::model::{Group, Network, Route};
 use crate::tables::Table;
 use crate::tables::version::{Version, address, compare, host, network, parse, supernet};
@@ -224,5 +227,6 @@ pub fn row_holds<N: Version>(
             Ok(is_len(table, row.1))
         }
         Ask::Len => Ok(is_len(table, row.1)),
+        _ => whole_row_holds(table, given, row),
     }
 }

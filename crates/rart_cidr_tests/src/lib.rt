@@ -37,4 +37,8 @@ mod short;
 #[cfg(test)]
 mod tables;
 #[cfg(test)]
+mod versions;
+#[cfg(test)]
 mod walks;
+#[cfg(test)]
+mod whole_tables;

@@ -159,6 +159,20 @@ fn place_of(routes: &[Route], net: &Network) -> Option<usize> {
     found
 }
 
+/// Returns the target that a callback of `retain` leaves, and whether its route stays.
+pub fn kept(net: &Network, target: u64) -> (u64, bool) {
+    (target ^ u64::from(net.len), target % 8 != 0)
+}
+
+/// Changes all targets and removes the routes that `kept` rejects.
+pub fn retain(routes: &mut Vec<Route>) {
+    routes.retain_mut(|route: &mut Route| {
+        let (target, stays) = kept(&route.0, route.1);
+        route.1 = target;
+        stays
+    });
+}
+
 /// Removes from the routes, and returns the old target.
 pub fn take(routes: &mut Vec<Route>, net: Network) -> Option<u64> {
     let at = place_of(routes.as_slice(), &net)?;

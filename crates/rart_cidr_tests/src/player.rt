@@ -24,6 +24,11 @@ fn may_request(ask: Ask) -> bool {
             | Ask::All
             | Ask::RemoveInside(_)
             | Ask::Aggregate
+            | Ask::Other(_)
+            | Ask::CloneToOther
+            | Ask::CloneFromOther
+            | Ask::KeepOdd
+            | Ask::KeepOddByRef
     )
 }
 

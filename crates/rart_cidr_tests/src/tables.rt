@@ -3,6 +3,7 @@
 mod v4;
 mod v6;
 pub mod version;
+pub mod whole;
 
 use crate::model::{Group, Network, Route};
 use crate::tables::version::{Version, cidr, number_of};
@@ -33,17 +34,19 @@ fn add_routes<N: Version>(walk: Routes<'_, N, u64>, given: &mut Vec<Route>) {
     }
 }
 
-/// A table of networks of one version.
+/// A table of networks of one version, and another one for calls on two.
 #[derive(Drop)]
 pub struct Table<N: Version> {
     routes: NetworkTable<N, u64>,
+    other: NetworkTable<N, u64>,
 }
 
 impl<N: Version> Table<N> {
-    /// Returns a table without routes.
+    /// Returns tables without routes.
     pub fn empty(alloc: Global) -> Self {
         Table {
             routes: NetworkTable::new(alloc),
+            other: NetworkTable::new(alloc),
         }
     }
 

@@ -48,15 +48,6 @@ pub record HasRunTo (mode : Mode) (has_bad : Bool) (text : List ℕ) (n : ℕ) (
   pub answers : HasRun IsAnsweredOrBad no_routes text n tables old new
   pub reports : HasRun IsReported 0 text n n said_old said_new
 
--- no line is run
-pub run-begins : (mode : Mode) (text : List ℕ) (a said : Option (List ℕ))
-    → HasRunTo mode false text 0 no_routes a a said said
-run-begins mode text a said = record {
-  so_far = (record { printed = []; run = (refl, refl); appends = Appends-kept a a (Keeps-same a) }, Keeps-same said);
-  answers = record { printed = []; run = (refl, refl); appends = Appends-kept a a (Keeps-same a) };
-  reports = record { printed = []; run = (refl, refl); appends = Appends-kept said said (Keeps-same said) };
-}
-
 -- so far, after a line that is answered
 answered : (mode : Mode) (has_bad : Bool) (text : List ℕ) (n index : ℕ) (line : List ℕ) (tables after : Tables)
     (answer : List ℕ) (a b c s t : Option (List ℕ)) → IsNext text n index line → IsAnswered line tables answer after
@@ -84,7 +75,7 @@ run-answers mode has_bad text n index line command tables after answer a b c s t
 }
 
 -- the next line is malformed
-pub is_bad-next : (text : List ℕ) (n index : ℕ) (line : List ℕ) (error : LineError) → IsNext text n index line
+is_bad-next : (text : List ℕ) (n index : ℕ) (line : List ℕ) (error : LineError) → IsNext text n index line
     → IsCommand (words_of line) (Err error) → IsBadLine text n error
 is_bad-next text n index line error next is =
     let k = is_line text n index line next in
@@ -95,11 +86,11 @@ is_bad-next text n index line error next is =
     }
 
 -- it is reported
-pub run-reports : (mode : Mode) (has_bad : Bool) (text : List ℕ) (n index : ℕ) (line : List ℕ) (error : LineError)
-    (tables : Tables) (a b c s t u : Option (List ℕ)) → IsNext text n index line
+pub run-reports : (mode : Mode) (has_bad : Bool) (text : List ℕ) {n index : ℕ} {line : List ℕ} (error : LineError)
+    {tables : Tables} {a b c s t u : Option (List ℕ)} → IsNext text n index line
     → IsCommand (words_of line) (Err error) → mode ≡ KeepGoing → Keeps b c → IsSaid t u (BadLine (index + 1) error)
     → HasRunTo mode has_bad text n tables a b s t → HasRunTo mode true text (n + 1) tables a c s u
-run-reports mode has_bad text n index line error tables a b c s t u next is goes kept says h =
+run-reports mode has_bad text {n} {index} {line} error {tables} {a} {b} {c} {s} {t} {u} next is goes kept says h =
     let k = is_line text n index line next in
     record {
       so_far = (goes, (n, (error, is_bad-next text n index line error next is)));
@@ -115,13 +106,13 @@ run-reports mode has_bad text n index line error tables a b c s t u next is goes
     }
 
 -- it ends the run
-pub ends-at_bad : (mode : Mode) (has_bad : Bool) (text : List ℕ) (n index : ℕ) (line : List ℕ) (error : LineError)
-    (tables : Tables) (a b s t : Option (List ℕ)) → IsNext text n index line → IsCommand (words_of line) (Err error)
+pub ends-at_bad : (mode : Mode) (has_bad : Bool) (text : List ℕ) {n index : ℕ} {line : List ℕ} {error : LineError}
+    {tables : Tables} {a b s t : Option (List ℕ)} → IsNext text n index line → IsCommand (words_of line) (Err error)
     → mode ≡ EndAtBad → HasRunTo mode has_bad text n tables a b s t
     → Ends mode text (Err (BadLine (index + 1) error)) a b s t
-ends-at_bad mode true text n index line error tables a b s t next is ends h =
+ends-at_bad mode true text {n} {index} {line} {error} {tables} {a} {b} {s} {t} next is ends h =
     let goes : mode ≡ KeepGoing = h.so_far.0 in absurd (cc)
-ends-at_bad mode false text n index line error tables a b s t next is ends h =
+ends-at_bad mode false text {n} {index} {line} {error} {tables} {a} {b} {s} {t} next is ends h =
     let k = is_line text n index line next in
     let all = h.so_far.0 in (
       ends,

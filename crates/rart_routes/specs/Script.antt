@@ -58,7 +58,7 @@ abbrev pub report_on : ℕ → Result Command LineError → List ℕ
 report_on number (Ok command) = []
 report_on number (Err error) = message_of (BadLine number error) ++ 10 ∷ []
 
--- this is said of a line that comes after so many others; with it there is one more
+-- this is said of a line that comes after `before` others; with it there are `after`
 pub record IsReported (line : List ℕ) (before : ℕ) (report : List ℕ) (after : ℕ) : Type 0 where
   pub result : Result Command LineError
   pub is_result : IsCommand (words_of line) result

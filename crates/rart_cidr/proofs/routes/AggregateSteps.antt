@@ -7,17 +7,13 @@ use Rattle.rart_keys.specs.Ranges.{pairs_from}
 use Rattle.rart_keys.specs.SortedMap.{IsAscending, lookup, without}
 use Rattle.rart_keys.proofs.maps.SortedMaps.{ascending-without}
 use Rattle.rart_cidr.specs.Aggregates.{AreCompared, AreNeeded, KeepsMatches}
+use Rattle.rart_cidr.specs.tables.TwoTables.{routes_from}
 use Rattle.rart_cidr.proofs.routes.AggregateLemmas.{keeps-more, keeps-removed, needed-more}
-use Rattle.rart_cidr.proofs.routes.RemovalLemmas.{first_key}
-use Rattle.rart_cidr.proofs.routes.SplitLemmas.{split-after, split-from, split-front, split-lookup}
-use Rattle.rart_cidr.proofs.routes.SplitLemmas.{split-without}
+use Rattle.rart_cidr.proofs.walks.PositionLemmas.{first-is, todo-is}
+use Rattle.rart_cidr.proofs.routes.RemovalLemmas.{first_key, no-first}
+use Rattle.rart_cidr.proofs.routes.SplitLemmas.{split-after, split-front, split-lookup, split-without}
 
 module _ {T : Type 0} where
-  -- the routes from a network on, or none
-  abbrev pub todo_at : Option (List ℕ) → List (List ℕ × T) → List (List ℕ × T)
-  todo_at None es = []
-  todo_at (Some n) es = pairs_from true n es
-
   -- some routes are done, of which some are kept; those to come are as before
   pub record Aggregating (same : T → T → Bool) (old cur : List (List ℕ × T)) (at : Option (List ℕ)) : Type 0 where
     pub done : List (List ℕ × T)
@@ -29,12 +25,6 @@ module _ {T : Type 0} where
     pub keeps : KeepsMatches same done kept
     pub needed : AreNeeded same kept
     pub fewer : length kept ≤ length done
-
-  first-is : (n : List ℕ) (es : List (List ℕ × T)) → Some n ≡ first_key es
-      → (t : T) × (rest : List (List ℕ × T)) × (es ≡ (n, t) ∷ rest)
-  first-is n [] h = absurd (let x = h in cc)
-  first-is n (e ∷ es) h = let same : n ≡ e.0 = (let x = h in cc) in
-      (e.1, es, ap (λ z. (z, e.1) ∷ es) (sym same))
 
   compared-false : (same : T → T → Bool) (t u : T) (o p : Option T) → p ≡ Some t → AreCompared same p o false
       → o ≡ Some u → same t u ≡ false
@@ -65,16 +55,9 @@ module _ {T : Type 0} where
       fewer = omega arith;
     }
 
-    todo-is : (old cur : List (List ℕ × T)) (at : Option (List ℕ)) → IsAscending cur
-        → (s : Aggregating same old cur at) → todo_at at cur ≡ s.todo
-    todo-is old cur None a s = empty s.todo s.at_is
-      where
-        empty : (es : List (List ℕ × T)) → None ≡ first_key es → [] ≡ es
-        empty [] h = refl
-        empty (e ∷ es) h = absurd (let x = h in cc)
-    todo-is old cur (Some n) a s = let f = first-is n s.todo s.at_is in
-        let here : cur ≡ s.kept ++ (n, f.0) ∷ f.1 = s.cur_is ∙ ap (λ z. s.kept ++ z) f.2 in
-        ap (pairs_from true n) here ∙ split-from n f.0 s.kept f.1 (subst IsAscending here a) ∙ sym f.2
+    left-at : (old cur : List (List ℕ × T)) (at : Option (List ℕ)) → IsAscending cur
+        → (s : Aggregating same old cur at) → routes_from at cur ≡ s.todo
+    left-at old cur at a s = todo-is cur s.kept s.todo at a (record { routes = s.cur_is; first = s.at_is })
 
     module _ (n : List ℕ) (old cur : List (List ℕ × T)) (at : Option (List ℕ)) (b : IsAscending old)
         (a : IsAscending cur) (s : Aggregating same old cur (Some n))
@@ -138,43 +121,39 @@ module _ {T : Type 0} where
             fewer = let one = longer-done in let f = s.fewer in omega (arith, one, f);
           }
 
-      smaller : (new : List (List ℕ × T)) → todo_at at new ≡ now.1
-          → length (todo_at at new) < length (todo_at (Some n) cur)
+      smaller : (new : List (List ℕ × T)) → routes_from at new ≡ now.1
+          → length (routes_from at new) < length (routes_from (Some n) cur)
       smaller new m = let one = ap length m in
-          let two = ap length (todo-is old cur (Some n) a s ∙ now.2) in omega (arith, one, two)
+          let two = ap length (left-at old cur (Some n) a s ∙ now.2) in omega (arith, one, two)
 
       -- the route stays
       pub kept-step : AreCompared same (lookup n cur) (longest_value n (without n cur)) false
-          → Aggregating same old cur at × (length (todo_at at cur) < length (todo_at (Some n) cur))
+          → Aggregating same old cur at × (length (routes_from at cur) < length (routes_from (Some n) cur))
       unfolding now step-kept
-      kept-step c = (step-kept c, smaller cur (todo-is old cur at a (step-kept c)))
+      kept-step c = (step-kept c, smaller cur (left-at old cur at a (step-kept c)))
 
       -- the route leaves
       pub removed-step : AreCompared same (lookup n cur) (longest_value n (without n cur)) true
           → (new : List (List ℕ × T)) → new ≡ without n cur
-          → Aggregating same old new at × (length (todo_at at new) < length (todo_at (Some n) cur))
+          → Aggregating same old new at × (length (routes_from at new) < length (routes_from (Some n) cur))
       unfolding now step-removed
       removed-step c new m = let one = step-removed c in (
         subst (λ z. Aggregating same old z at) (sym m) one,
-        subst (λ z. length (todo_at at z) < length (todo_at (Some n) cur)) (sym m)
-            (smaller (without n cur) (todo-is old (without n cur) at (ascending-without n cur a) one)),
+        subst (λ z. length (routes_from at z) < length (routes_from (Some n) cur)) (sym m)
+            (smaller (without n cur) (left-at old (without n cur) at (ascending-without n cur a) one)),
       )
 
     -- all routes are done
     pub aggregated : (old cur : List (List ℕ × T)) → Aggregating same old cur None
         → KeepsMatches same old cur × AreNeeded same cur × (length cur ≤ length old)
     aggregated old cur s =
-        let none = nothing s.todo s.at_is in
+        let none = no-first s.todo s.at_is in
         let one : old ≡ s.done = s.old_is ∙ ap (λ z. s.done ++ z) none ∙ append-nil s.done in
         let two : cur ≡ s.kept = s.cur_is ∙ ap (λ z. s.kept ++ z) none ∙ append-nil s.kept in (
           subst (λ z. KeepsMatches same z cur) (sym one) (subst (KeepsMatches same s.done) (sym two) s.keeps),
           subst (AreNeeded same) (sym two) s.needed,
           let f = s.fewer in let l = ap length one in let m = ap length two in omega (arith, f, l, m),
         )
-      where
-        nothing : (es : List (List ℕ × T)) → None ≡ first_key es → es ≡ []
-        nothing [] h = refl
-        nothing (e ∷ es) h = absurd (let x = h in cc)
 
     -- some are
     pub partly-aggregated : (old cur : List (List ℕ × T)) (at : Option (List ℕ)) → IsAscending old

@@ -33,14 +33,14 @@ rest c h = let e = at-end in omega (arith, e, h)
 
 -- ---- capacities
 -- a capacity for one target more has room for one less
-pub less-room : (n : ℕ) → n < 256 → capacity_of n ≤ capacity_of (suc n)
+less-room : (n : ℕ) → n < 256 → capacity_of n ≤ capacity_of (suc n)
 unfolding holds_below
 less-room n h =
     let t = ltb-true _ _ (holds_at (λ k. ltb (capacity_of k) (suc (capacity_of (suc k)))) 256 n refl h) in
     omega (arith, t)
 
 -- a capacity for n targets has room for n
-pub enough-room : (n : ℕ) → n < 256 → n < capacity_of (suc n)
+enough-room : (n : ℕ) → n < 256 → n < capacity_of (suc n)
 unfolding holds_below
 enough-room n h = ltb-true _ _ (holds_at (λ k. ltb k (capacity_of (suc k))) 256 n refl h)
 
@@ -142,16 +142,6 @@ module _ {T : Type 0} where
         ∙ target-set (has_code words) c (255 - c) targets split w h
         ∙ sym (ap (λ z. pairs_from (has_code words) 0 z (set targets (rank_of words c) w)) (rest c small))
         )
-
-    pub set-packed : (w : T) (capacity : ℕ) → IsPacked words targets capacity
-        → IsPacked words (set targets (rank_of words c) w) capacity
-    set-packed w capacity p =
-        let same : length (set targets (rank_of words c) w) ≡ length targets = length-set targets (rank_of words c) w in
-        record {
-          count = same ∙ p.count;
-          least = p.least;
-          room = rw same p.room;
-        }
 
     module _ (new : List ℕ) where
       -- the set with the code

@@ -127,7 +127,7 @@ module _ {T : Type 0} where
   above-first k c [] es h a = a
   above-first k c (t ∷ ts) es h a = (less k c h, a)
 
-  pub pairs-above : (has : ℕ → Bool) (k from count : ℕ) (ts : List T) → k < from
+  pairs-above : (has : ℕ → Bool) (k from count : ℕ) (ts : List T) → k < from
       → AreAbove (k ∷ []) (pairs_from has from count ts)
   pairs-above has k from zero ts h = tt
   pairs-above has k from (suc count) ts h = elim (has from)

@@ -1,4 +1,4 @@
--- The first route inside a network, and what is left without it.
+-- The first route inside a network, and the table without it.
 use Rattle.std.proofs.Common.{◌≡◌, ℕ, ◌+◌, ◌<◌, ◌⊎◌, inl, inr, arith, length, Bool, List, [], ◌∷◌, ◌++◌, true, false}
 use Rattle.std.proofs.Common.{not}
 use Rattle.std.proofs.Common.{refl, sym, ap, ◌∙◌, Option, Some, None, if◌then◌else◌}
@@ -9,7 +9,7 @@ use Rattle.rart_keys.specs.Filters.{below, last_or, longest_match, matches, with
 use Rattle.rart_keys.specs.Ranges.{pairs_from}
 use Rattle.rart_keys.specs.SortedMap.{IsAscending, without}
 use Rattle.rart_keys.proofs.strings.ByteOrder.{bytes_eq-equal}
-use Rattle.rart_cidr.specs.ManyEdits.{LeavesRest}
+use Rattle.rart_cidr.specs.tables.ManyEdits.{LeavesRest}
 use Rattle.rart_cidr.specs.Walks.{up_to_outside}
 use Rattle.rart_cidr.proofs.routes.SplitLemmas.{split-without}
 use Rattle.rart_cidr.proofs.walks.FilterLemmas.{ascending_filter, up_to_outside_is}
@@ -31,7 +31,7 @@ module _ {T : Type 0} where
   head-outside q n (e ∷ es) h b = let same : n ≡ e.0 = (let x = h in cc) in
       let begun : begins q e.0 ≡ false = ap (begins q) (sym same) ∙ b in rw begun refl
 
-  no-first : (es : List (List ℕ × T)) → None ≡ first_key es → es ≡ []
+  pub no-first : (es : List (List ℕ × T)) → None ≡ first_key es → es ≡ []
   no-first [] h = refl
   no-first (e ∷ es) h = absurd (let x = h in cc)
 

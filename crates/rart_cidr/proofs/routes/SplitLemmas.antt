@@ -31,7 +31,7 @@ module _ {T : Type 0} where
   split-front n t [] todo a = (tt, tt)
   split-front n t (e ∷ kept) todo a = (front-above e.0 n t kept todo a.0, split-front n t kept todo a.1)
 
-  from-all : (h : Bool) (n : List ℕ) (es : List (List ℕ × T)) → AreAbove n es → pairs_from h n es ≡ es
+  pub from-all : (h : Bool) (n : List ℕ) (es : List (List ℕ × T)) → AreAbove n es → pairs_from h n es ≡ es
   from-all h n [] a = refl
   from-all h n (e ∷ es) a = rw (from_after h n e.0 a.0) (ap (λ z. e ∷ z) (from-all h n es a.1))
 

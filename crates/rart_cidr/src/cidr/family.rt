@@ -1,5 +1,7 @@
 //! What a table of networks uses of either version.
 ghost use Rattle.std.specs.Prelude.{◌≡◌, ◌≤◌, ◌*◌, ◌/◌, [], ◌∷◌, ℕ, List, length, take};
+ghost use Rattle.std.specs.Cmp.Lexicographic.{slice_cmp};
+ghost use Rattle.std.specs.Ordering.{nat_cmp};
 ghost use Rattle.rart_keys.specs.ByteStrings.{begins};
 ghost use Rattle.rart_keys.specs.KeyBytes.{IsWithin};
 ghost use Rattle.rart_cidr.specs.Bits.{AreClearAfter, bits_of, network};
@@ -8,6 +10,7 @@ ghost use Rattle.rart_cidr.specs.Routes.{IsCode, coded_network};
 use crate::cidr::Cidr;
 use crate::coded_network::network_of;
 use rart::{ArrayKey, KeyTrait};
+use std::cmp::Ordering;
 
 /// A network of one version, as a table uses it: [`Cidr4`](crate::Cidr4) or [`Cidr6`](crate::Cidr6).
 ///
@@ -49,6 +52,10 @@ pub trait Network: Copy {
     fn contains_net(&self, net: &Self) -> bool
         ensures { result ≡ begins (bits self.now) (bits net.now) };
 
+    /// Compares by address, then by length. This is the order of the bits: a network comes before those inside it.
+    fn cmp_bits(&self, other: &Self) -> Ordering
+        ensures { result ≡ slice_cmp nat_cmp (bits self.now) (bits other.now) };
+
     /// Returns the network of whole octets and the bits that a code encodes.
     fn at_code(&self, octets: &[u8], code: u8) -> Self
         requires code { IsCode (code ∷ []) }
@@ -86,6 +93,10 @@ impl Network for Cidr<4> {
         self.contains_net(net)
     }
 
+    fn cmp_bits(&self, other: &Self) -> Ordering {
+        self.cmp_bits(other)
+    }
+
     fn at_code(&self, octets: &[u8], code: u8) -> Self {
         network_of(octets, code)
     }
@@ -118,6 +129,10 @@ impl Network for Cidr<16> {
 
     fn contains_net(&self, net: &Self) -> bool {
         self.contains_net(net)
+    }
+
+    fn cmp_bits(&self, other: &Self) -> Ordering {
+        self.cmp_bits(other)
     }
 
     fn at_code(&self, octets: &[u8], code: u8) -> Self {

@@ -6,7 +6,7 @@ ghost use Rattle.rart_keys.specs.SortedMap.{put};
 ghost use Rattle.rart.specs.BulkLoads.{Reads, ReadsAll};
 ghost use Rattle.rart.specs.Steps.{pairs_in};
 ghost use Rattle.rart_cidr.specs.Edits.{MayRefuseRoute};
-ghost use Rattle.rart_cidr.specs.ManyEdits.{PutsRoutesUntil};
+ghost use Rattle.rart_cidr.specs.tables.ManyEdits.{PutsRoutesUntil};
 
 use crate::cidr::Network;
 use crate::network_table::NetworkTable;

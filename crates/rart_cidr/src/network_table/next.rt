@@ -69,7 +69,7 @@ impl<N: Network, T> NetworkTable<N, T> {
     }
 
     // Returns the network of the first route that is `net` or comes after it.
-    fn net_at_or_after(&self, net: &N) -> Option<N>
+    pub(super) fn net_at_or_after(&self, net: &N) -> Option<N>
         ensures { option_map N.bits result ≡ option_map (λ e. e.0)
             (slice_get (pairs_from true (N.bits net.now) self.now) 0) }
     {

@@ -2,7 +2,7 @@
 ghost use Rattle.std.specs.Prelude.{◌≡◌, ◌≤◌, length, IfErr, OnErr, OnOk};
 ghost use Rattle.rart_keys.specs.SortedMap.{without};
 ghost use Rattle.rart_parts.specs.declared.error.TreeError.TheVariants.{Memory};
-ghost use Rattle.rart_cidr.specs.ManyEdits.{RemovesWithin};
+ghost use Rattle.rart_cidr.specs.tables.ManyEdits.{RemovesWithin};
 
 use crate::cidr::Network;
 use crate::network_table::NetworkTable;

@@ -3,7 +3,6 @@
 use crate::tables::version::Version;
 use rart::TreeError;
 use rart_cidr::{Cidr4, CidrError, CidrTable4, Matches4, ParseCidrError, Routes4};
-use std::cmp::Ordering;
 use std::net::Ipv4Addr;
 use std::str::FromStr;
 
@@ -35,10 +34,6 @@ impl Version for Cidr4 {
 
     fn first(&self) -> u128 {
         u128::from(self.addr().to_bits()) << 96
-    }
-
-    fn cmp_bits(&self, other: &Self) -> Ordering {
-        self.cmp_bits(other)
     }
 
     fn longest_match(table: &CidrTable4<u64>, addr: u128) -> Option<(Self, &u64)> {

@@ -3,7 +3,6 @@
 use crate::tables::version::Version;
 use rart::TreeError;
 use rart_cidr::{Cidr6, CidrError, CidrTable6, Matches6, ParseCidrError, Routes6};
-use std::cmp::Ordering;
 use std::net::Ipv6Addr;
 use std::str::FromStr;
 
@@ -35,10 +34,6 @@ impl Version for Cidr6 {
 
     fn first(&self) -> u128 {
         self.addr().to_bits()
-    }
-
-    fn cmp_bits(&self, other: &Self) -> Ordering {
-        self.cmp_bits(other)
     }
 
     fn longest_match(table: &CidrTable6<u64>, addr: u128) -> Option<(Self, &u64)> {

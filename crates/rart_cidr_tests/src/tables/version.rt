@@ -25,9 +25,6 @@ pub trait Version: rart_cidr::Network + Ord {
     /// Returns the first address.
     fn first(&self) -> u128;
 
-    /// Compares by the bits.
-    fn cmp_bits(&self, other: &Self) -> Ordering;
-
     /// Returns the route with the longest network that contains `addr`.
     fn longest_match(table: &NetworkTable<Self, u64>, addr: u128) -> Option<(Self, &u64)>;
 

@@ -17,7 +17,7 @@ returns-in-EndAtBad-clause-answers g c =
     let turn = YieldsList-turn all c.loop-index.yielded _ c.loop-index.yielded_by _ c.next.new.self
     (c.in-Some.index, c.in-Some.line) c.in-Some.is c.next.ensures.steps in
     let is : IsCommand (words_of c.in-Some.line.now) (Err c.in-Err.error) = c.in-Err.ensures in
-    ends-at_bad c.args.mode c.loop-index.has_bad c.args.text.now _ _ _ _ _ _ _ _ _ turn is c.in-EndAtBad.is
+    ends-at_bad c.args.mode c.loop-index.has_bad c.args.text.now turn is c.in-EndAtBad.is
     c.loop-index.invariant
 
 pub loop-index-preserved-in-Err : goal.loop-index-preserved-in-Err
@@ -33,7 +33,7 @@ loop-index-preserved-in-Err g c =
     (g.W.Write.contents c.args.output.now) (g.W.Write.contents c.report.new.output)
     (g.E.Write.contents c.args.errors.now) (g.E.Write.contents c.report.new.errors))
     (sym (length_push c.loop-index.yielded _))
-    (run-reports c.args.mode c.loop-index.has_bad c.args.text.now _ _ _ _ _ _ _ _ _ _ _ turn is goes
+    (run-reports c.args.mode c.loop-index.has_bad c.args.text.now _ turn is goes
     c.in-Ok-report.ensures.answers c.in-Ok-report.ensures.said c.loop-index.invariant)
 
 pub loop-index-preserved : goal.loop-index-preserved

@@ -1,4 +1,4 @@
-use Rattle.std.proofs.Common.{◌≤◌, arith, ap, length, subst, sym, true, false}
+use Rattle.std.proofs.Common.{◌≤◌, arith, ap, length, subst, sym}
 use Rattle.std.specs.Prelude.{option_map}
 use Rattle.rart_keys.specs.Filters.{longest_value}
 use Rattle.rart_keys.specs.SortedMap.{lookup, without}

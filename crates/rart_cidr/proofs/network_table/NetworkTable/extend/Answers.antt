@@ -1,7 +1,7 @@
 use Rattle.std.proofs.Common.{rules}
 use Rattle.rart.proofs.bulks.BulkLoadLemmas.{reads-more}
 use Rattle.rart.proofs.bulks.ExtensionLemmas.{put-more}
-use Rattle.rart_cidr.specs.ManyEdits.{PutsRoutesUntil}
+use Rattle.rart_cidr.specs.tables.ManyEdits.{PutsRoutesUntil}
 use Rattle.rart_cidr.proofs.routes.ExtensionLemmas.{until_refused}
 use Rattle.rart_cidr.proofs.network_table.NetworkTable.extend.Goals as goal
 

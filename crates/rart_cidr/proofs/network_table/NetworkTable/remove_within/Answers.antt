@@ -1,7 +1,7 @@
 use Rattle.std.proofs.Common.{◌<◌, ◌≤◌, arith, length, subst, sym}
 use Rattle.std.specs.Prelude.{◌≢◌, []}
 use Rattle.rart_keys.specs.Filters.{below}
-use Rattle.rart_cidr.specs.ManyEdits.{LeavesRest}
+use Rattle.rart_cidr.specs.tables.ManyEdits.{LeavesRest}
 use Rattle.rart_cidr.proofs.routes.RemovalLemmas.{fewer-inside, leaves-all, leaves-more, left-none, some-inside}
 use Rattle.rart_cidr.proofs.network_table.NetworkTable.remove_within.Goals as goal
 

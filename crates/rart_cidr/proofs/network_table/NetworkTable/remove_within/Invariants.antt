@@ -1,6 +1,6 @@
 use Rattle.std.proofs.Common.{length}
 use Rattle.rart_keys.specs.Filters.{below}
-use Rattle.rart_cidr.specs.ManyEdits.{LeavesRest}
+use Rattle.rart_cidr.specs.tables.ManyEdits.{LeavesRest}
 use Rattle.rart_cidr.proofs.network_table.NetworkTable.remove_within.Given as goal
 
 abbrev pub invariant-loop-found : goal.invariant-loop-found
