@@ -2,8 +2,10 @@ pub mod BulkEndLemmas
 pub mod BulkLawLemmas
 pub mod BulkLoadLemmas
 pub mod BulkTreeLemmas
-pub mod BulkValueLemmas
 pub mod CopyLemmas
 pub mod ExtensionLemmas
+pub mod IndexedLoads
+pub mod LoaderLemmas
 pub mod MigrateLemmas
 pub mod PairLists
+pub mod TakeLemmas

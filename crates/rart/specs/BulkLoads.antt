@@ -1,10 +1,9 @@
 -- What a bulk load reads, and where it stops.
 use Rattle.std.specs.Prelude.{◌≡◌, ◌≢◌, ◌+◌, ◌-◌, ◌^◌, ◌<◌, ◌≤◌, min, ℕ, List, [], ◌∷◌, ◌++◌, length, Option, None}
-use Rattle.std.specs.Prelude.{Some, Result, IfErr, OnOk, slice_index_or}
+use Rattle.std.specs.Prelude.{Some, slice_index_or, zero, suc}
 use Rattle.std.specs.Iterator.{Yields, Drains, HoldsAlong}
-use Rattle.rart_keys.specs.BulkLists.{WasRead, first_fault, last_wins, put_all}
-use Rattle.rart_keys.specs.SortedMap.{IsAscending, keys_of, values_of}
-use Rattle.rart_trie.specs.build.ValueCalls.{Takes}
+use Rattle.rart_keys.specs.BulkLists.{first_fault, last_wins, put_all}
+use Rattle.rart_keys.specs.SortedMap.{IsAscending, keys_of}
 use Rattle.rart.specs.Steps.{pairs_in}
 use Rattle.rart.specs.declared.bulk.BulkError.{BulkError}
 use Rattle.rart.specs.declared.bulk.BulkError.TheVariants.{Memory, Full, Unsorted}
@@ -49,20 +48,15 @@ FailsUnique es (Unsorted at) = ⊥
 abbrev pub LoadsSorted : {V : Type 0} → List (List ℕ × V) → List (List ℕ × V) → Type 0
 LoadsSorted es m = (first_fault es ≡ None) × (m ≡ last_wins es)
 
--- keys and values of these pairs
-abbrev pub AreSplit : {V : Type 0} → List (List ℕ × V) → List (List ℕ) → List V → Type 0
-AreSplit es ks vs = (ks ≡ keys_of es) × (vs ≡ values_of es)
+-- f can be called at i, i + 1 and so on, n times
+abbrev pub CanTake : {F V : Type 0} → (F → ℕ → Type 0) → (F → ℕ → V → F → Type 0) → ℕ → ℕ → F → Type 0
+CanTake pre step i zero f = Unit {0}
+CanTake {F} {V} pre step i (suc n) f = pre f i × ((v : V) (g : F) → step f i v g → CanTake pre step (suc i) n g)
 
--- one item more is read: with Ok, ks' and vs' are then what is kept
-abbrev pub KeepsItem : {A E V : Type 0} → List (List ℕ) → List V → List ℕ → V → Result A E → List (List ℕ) → List V
-    → Type 0
-KeepsItem {A} {E} {V} ks vs k v r ks' vs' = (es : List (List ℕ × V)) → WasRead es ks vs
-    → OnOk r (WasRead (es ++ (k, v) ∷ []) ks' vs')
-
--- and with Err the load stops there; the item's place is `at`
-abbrev pub FailsAtItem : {A V : Type 0} → List (List ℕ) → List V → List ℕ → V → ℕ → Result A BulkError → Type 0
-FailsAtItem {A} {V} ks vs k v at r = (es : List (List ℕ × V)) → WasRead es ks vs → at ≡ min (length es) (2 ^ 64 - 1)
-    → IfErr r (FailsSorted (es ++ (k, v) ∷ []))
+-- the calls of f at i, i + 1 and so on gave these values, and left g
+abbrev pub Takes : {F V : Type 0} → (F → ℕ → V → F → Type 0) → ℕ → F → List V → F → Type 0
+Takes step i f [] g = f ≡ g
+Takes {F} step i f (v ∷ vs) g = (m : F) × step f i v m × Takes step (suc i) m vs g
 
 -- how a load of `len` keys by index is refused
 abbrev pub FailsByIndex : ℕ → BulkError → Type 0

@@ -1,9 +1,13 @@
 -- What each edit of a tree returns, and the map after it, with Ok and with Err.
 use Rattle.std.specs.Prelude.{◌≡◌, ◌≢◌, ℕ, Bool, List, length, is_some, Option, None, Result, Ok, Err, MatchResult}
 use Rattle.std.specs.Option.{UnwrapsOrElse}
+use Rattle.std.specs.declared.ops.Bound.{Bound}
 use Rattle.rart_keys.specs.Filters.{below, without_prefix}
+use Rattle.rart_keys.specs.Ranges.{between}
 use Rattle.rart_keys.specs.SortedMap.{lookup, put, without}
+use Rattle.rart_trie.specs.edits.RangeRemovals.{outside}
 use Rattle.rart_trie.specs.declared.refused.Refused.{Refused}
+use Rattle.rart_parts.specs.Errors.{IsMemory}
 use Rattle.rart_parts.specs.declared.error.TreeError.{TreeError}
 use Rattle.rart.specs.MapAndShape.{MapAndShape}
 use Rattle.rart.specs.Refusals.{MayRefuseRemove, MayRefuseInsert, MayRefuseTakePrefix, ShowsWhy, IsNotInserted}
@@ -53,6 +57,18 @@ module _ {V : Type 0} where
   abbrev pub RemovesPrefix : List ℕ → List (List ℕ × V) → List (List ℕ × V) → Result ℕ TreeError → Type 0
   RemovesPrefix prefix old new (Ok count) = (count ≡ length (below prefix old)) × (new ≡ without_prefix prefix old)
   RemovesPrefix prefix old new (Err error) = MayRefuseTakePrefix old prefix error × (new ≡ old)
+
+  -- `take_range`. Ok: the pairs within the bounds are removed and returned. Err: the map is unchanged
+  abbrev pub TakesRange : Bound (List ℕ) → Bound (List ℕ) → List (List ℕ × V) → List (List ℕ × V)
+      → Result (MapAndShape V) TreeError → Type 0
+  TakesRange start end old new (Ok taken) = (taken.pairs ≡ between start end old) × (new ≡ outside start end old)
+  TakesRange start end old new (Err error) = IsMemory error × (new ≡ old)
+
+  -- `remove_range`. Ok: these pairs are removed, their number is returned. Err: the map is unchanged
+  abbrev pub RemovesRange : Bound (List ℕ) → Bound (List ℕ) → List (List ℕ × V) → List (List ℕ × V) → Result ℕ TreeError
+      → Type 0
+  RemovesRange start end old new (Ok count) = (count ≡ length (between start end old)) × (new ≡ outside start end old)
+  RemovesRange start end old new (Err error) = IsMemory error × (new ≡ old)
 
   -- the key has a value now: the stored one, if it was stored, and else one of which New holds
   abbrev pub PutsIfNew : List ℕ → (V → Type 0) → List (List ℕ × V) → List (List ℕ × V) → Type 0

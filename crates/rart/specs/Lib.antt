@@ -6,6 +6,7 @@ pub mod Edits
 pub mod Errors
 pub mod Extensions
 pub mod LawAnswers
+pub mod Loaders
 pub mod Loans
 pub mod MapAndShape
 pub mod Merges

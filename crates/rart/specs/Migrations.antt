@@ -12,6 +12,10 @@ terminated_key k = k ++ 0 ∷ []
 abbrev pub with_zeros : {V : Type 0} → List (List ℕ × V) → List (List ℕ × V)
 with_zeros es = map (λ e. (terminated_key e.0, e.1)) es
 
+-- each key ends in a zero byte
+abbrev pub AreTerminated : List (List ℕ) → Type 0
+AreTerminated keys = (texts : List (List ℕ)) × (keys ≡ map terminated_key texts)
+
 -- the key at this place is the first that doesn't end in a zero byte
 pub record IsFirstUnterminated (keys : List (List ℕ)) (place : ℕ) : Type 0 where
   pub texts : List (List ℕ)

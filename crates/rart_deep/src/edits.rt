@@ -6,6 +6,7 @@ use crate::parts::part;
 use crate::trees::{Key, Tree, insert_all, key};
 use rart::{RouteTable, SlotUpdate, TryUpdateError};
 use std::alloc::Global;
+use std::ops::Bound;
 
 type Routes = RouteTable<Key, u64>;
 
@@ -172,6 +173,29 @@ fn retain(tree: &mut Tree) -> Option<usize> {
     Some(tree.len())
 }
 
+// Keeps of the keys of at least 2 bytes, by a range, those of even length, and returns how many keys there are.
+fn range_retain(tree: &mut Tree) -> Option<usize> {
+    let even = |key: &[u8], _value: &mut u64| key.len() % 2 == 0;
+    tree.range_retain(Bound::Included(key(2)), Bound::Included(key(1023)), even)
+        .ok()?;
+    Some(tree.len())
+}
+
+// Takes the keys of 2 to 512 bytes, and returns how many they are.
+fn take_range(tree: &mut Tree) -> Option<usize> {
+    let part = tree
+        .take_range(Bound::Included(key(2)), Bound::Included(key(512)))
+        .ok()?;
+    Some(part.len())
+}
+
+// Removes the keys of at least 2 bytes but the longest, and returns how many are left.
+fn remove_range(tree: &mut Tree) -> Option<usize> {
+    tree.remove_range(Bound::Included(key(2)), Bound::Excluded(key(1024)))
+        .ok()?;
+    Some(tree.len())
+}
+
 fn add_all(routes: &mut Routes) -> Option<()> {
     for length in 1..1025 {
         routes.add_new(&key(length), 1).ok()?;
@@ -217,6 +241,9 @@ pub fn edit(tree: &mut Tree, name: &str) -> Option<usize> {
         "get_or_insert" => hold_all(tree),
         "values_mut" => Some(walk_mut(tree)),
         "retain" => retain(tree),
+        "range_retain" => range_retain(tree),
+        "take_range" => take_range(tree),
+        "remove_range" => remove_range(tree),
         "clear" => Some(clear(tree)),
         _ => part(tree, name),
     }

@@ -14,5 +14,5 @@ mod view;
 
 pub use control::{VisitControl, VisitError};
 pub use outline::Outline;
-pub use rart_trie::node::{ChildMap, DefaultNode, Node, NodeIter};
+pub use rart_trie::node::{Builder, ChildMap, DefaultNode, Node, NodeIter};
 pub use view::{LendingKeyBytes, LendingKeyView};

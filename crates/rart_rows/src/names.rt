@@ -110,6 +110,14 @@ pub enum Values {
 #[derive(Clone, Copy)]
 pub enum Many {
     Retain,
+    PrefixRetain,
+    RangeRetain,
+    RangeRetainBytes,
+    RemoveRange,
+    RemoveRangeBytes,
+    TakeRange,
+    TakeRangeBytes,
+    SplitOff,
     RemovePrefix,
     TakePrefix,
     IntoPairs,

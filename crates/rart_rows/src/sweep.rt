@@ -29,7 +29,7 @@ enum Left {
 fn left_by(row: &Row<'_>) -> Left {
     match row.call {
         Call::Insertion(Insertion::Update) if row.args.request.writes() => Left::Nodes,
-        Call::Many(Many::Retain)
+        Call::Many(Many::Retain | Many::PrefixRetain | Many::RangeRetain | Many::RangeRetainBytes)
         | Call::Both(Both::Append | Both::MergeWith)
         | Call::Load(Load::Extend)
         | Call::TableEdit(TableEdit::Extend)

@@ -9,7 +9,7 @@ use crate::names::{
 pub type Entry = (&'static str, Call, &'static str);
 
 // Where two names are one call, the second is the word of the program `rart_script`.
-static NAMES: [Entry; 103] = [
+static NAMES: [Entry; 111] = [
     ("get", Call::Look(Look::Get), "k"),
     ("contains_key", Call::Look(Look::ContainsKey), "k"),
     (
@@ -125,6 +125,22 @@ static NAMES: [Entry; 103] = [
         "sev",
     ),
     ("retain", Call::Many(Many::Retain), "rv"),
+    ("prefix_retain", Call::Many(Many::PrefixRetain), "krv"),
+    ("range_retain", Call::Many(Many::RangeRetain), "serv"),
+    (
+        "range_retain_bytes",
+        Call::Many(Many::RangeRetainBytes),
+        "SErv",
+    ),
+    ("remove_range", Call::Many(Many::RemoveRange), "se"),
+    (
+        "remove_range_bytes",
+        Call::Many(Many::RemoveRangeBytes),
+        "SE",
+    ),
+    ("take_range", Call::Many(Many::TakeRange), "se"),
+    ("take_range_bytes", Call::Many(Many::TakeRangeBytes), "SE"),
+    ("split_off", Call::Many(Many::SplitOff), "k"),
     ("remove_prefix", Call::Many(Many::RemovePrefix), "k"),
     ("take_prefix", Call::Many(Many::TakePrefix), "k"),
     ("into_pairs", Call::Many(Many::IntoPairs), ""),

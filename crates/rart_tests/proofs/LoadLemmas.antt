@@ -12,7 +12,7 @@ use Rattle.std.proofs.lemmas.Grind.{reverse_onto}
 use Rattle.std.proofs.lemmas.List.Sorted.{IsPermutation-append_comm, IsPermutation-reverse}
 use Rattle.rart_keys.specs.ByteStrings.{IsLess}
 use Rattle.rart_keys.specs.SortedMap.{IsAscending, keys_of}
-use Rattle.rart_trie.specs.build.ValueCalls.{CanTake}
+use Rattle.rart.specs.BulkLoads.{CanTake}
 use Rattle.rart.specs.Steps.{pairs_in}
 
 module _ {K V : Type 0} (bytes : K → List ℕ) where

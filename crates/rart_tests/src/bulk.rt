@@ -87,7 +87,7 @@ fn read_with_refusal(
     (count.get(), loaded.err(), refused)
 }
 
-// The first request comes with the first item, and a later one never with an earlier item.
+// The first request comes with the second item, and a later one never with an earlier item.
 fn reads_no_further(alloc: Global, items: &[(Key, u64)], form: Form) -> bool
     requires { IsAscending (pairs_in array_key_bytes items.now) }
 {
@@ -98,7 +98,7 @@ fn reads_no_further(alloc: Global, items: &[(Key, u64)], form: Form) -> bool
             part_ends(alloc);
             return error.is_none() && read == items.len();
         }
-        if error != Some(BulkError::Memory) || read < most || (at == 1 && read != 1) {
+        if error != Some(BulkError::Memory) || read < most || (at == 1 && read != 2) {
             return false;
         }
         most = read;

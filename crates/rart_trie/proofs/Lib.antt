@@ -5,6 +5,7 @@ pub mod ranges
 pub mod removals
 pub mod retentions
 pub mod shapes
+pub mod splits
 pub mod storages
 pub mod tree_stats
 pub mod tries

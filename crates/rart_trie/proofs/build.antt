@@ -1,5 +1,3 @@
-pub mod BuildLemmas
-pub mod OpeningLemmas
-pub mod RunLemmas
-pub mod StretchLemmas
-pub mod TakeLemmas
+pub mod SpineLemmas
+pub mod SpineSteps
+pub mod WaitingLemmas

@@ -1,1 +1,4 @@
+pub mod BetweenLemmas
 pub mod BoundCutLemmas
+pub mod PartLemmas
+pub mod PassedChildren

@@ -1,7 +1,10 @@
 pub mod CallsAfterRefusal
+pub mod ChangedChildren
+pub mod PartRetentions
 pub mod RetainEndLemmas
 pub mod RetainJoins
 pub mod RetainStepLemmas
 pub mod RetainTreeLemmas
 pub mod RetainWalkLemmas
+pub mod RetainedParts
 pub mod RetentionLemmas

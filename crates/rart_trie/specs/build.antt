@@ -1,3 +1,2 @@
 pub mod Built
-pub mod Stretches
-pub mod ValueCalls
+pub mod Spine

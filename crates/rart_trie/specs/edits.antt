@@ -9,10 +9,12 @@ pub mod Loan
 pub mod NodeEdits
 pub mod Pops
 pub mod PrefixRemovals
+pub mod RangeRemovals
 pub mod RemoveAllocations
 pub mod RetainSteps
 pub mod Retentions
 pub mod Slots
+pub mod Splits
 pub mod TreeUpdates
 pub mod Updates
 pub mod ValueChanges

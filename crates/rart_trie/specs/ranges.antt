@@ -1,4 +1,5 @@
 pub mod BoundCuts
 pub mod LentBounds
+pub mod Parts
 pub mod Starts
 pub mod Under

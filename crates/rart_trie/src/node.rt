@@ -16,11 +16,13 @@ mod edits;
 mod ends;
 mod fill;
 mod node_trait;
+mod part;
 mod rest;
 mod storage;
 mod tree_stats;
 
 pub use children::NodeIter;
+pub use edits::builder::Builder;
 pub use ends::{End, copy_of};
 pub use node_trait::Node;
 pub use rest::strip_prefix;

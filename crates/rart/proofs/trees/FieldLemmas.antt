@@ -25,6 +25,17 @@ part-at_most n part rest whole len counted parts total = omega arith
 pub rest-counted : (n part rest whole len : ℕ) → n ≡ part → rest + part ≡ whole → len ≡ whole → len - n ≡ rest
 rest-counted n part rest whole len counted parts total = omega arith
 
+-- a part of the pairs was counted before and after some of its pairs were removed: how many pairs are left
+pub record Recounted (before after len new : ℕ) : Type 0 where
+  pub shrunk : after ≤ before
+  pub at_most : before - after ≤ len
+  pub left : len - (before - after) ≡ new
+
+recounted-by : (before after part left new old len : ℕ) → before ≡ part → after ≡ left → new + part ≡ old + left
+    → new ≤ old → len ≡ old → Recounted before after len new
+recounted-by before after part left new old len counted again others fewer total
+    = record { shrunk = omega arith; at_most = omega arith; left = omega arith }
+
 module _ {V : Type 0} where
   -- the bound is at least the length of each kept key
   short-kept : (es : List (List ℕ × V)) (longest bound : ℕ) → longest_key es ≤ longest → (length es ≡ 0 → bound ≡ 0)
@@ -59,3 +70,16 @@ module _ {V : Type 0} where
       → end ≤ start + below_bound q es
   bound-taken es start middle end same takes first second counted = rw (← same)
       (omega (arith, ap length takes))
+
+  -- the pairs of a part, those of it that are left counted by a shared tree of the root
+  pub recounted : (part : List (List ℕ × V) → List (List ℕ × V)) (old seen copied root : Option (Trie V))
+      (before after len : ℕ) → before ≡ length (part (tree_pairs old)) → after ≡ length (part (tree_pairs seen))
+      → seen ≡ copied → copied ≡ root
+      → length (tree_pairs root) + length (part (tree_pairs old))
+      ≡ length (tree_pairs old) + length (part (tree_pairs root))
+      → length (tree_pairs root) ≤ length (tree_pairs old) → len ≡ length (tree_pairs old)
+      → Recounted before after len (length (tree_pairs root))
+  recounted part old seen copied root before after len counted again shows copies others fewer total = recounted-by
+      before after (length (part (tree_pairs old))) (length (part (tree_pairs root))) (length (tree_pairs root))
+      (length (tree_pairs old)) len counted (again ∙ ap (λ o. length (part (tree_pairs o))) (shows ∙ copies)) others
+      fewer total

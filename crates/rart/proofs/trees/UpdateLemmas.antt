@@ -89,7 +89,7 @@ module _ {V : Type 0} where
   touched-is Remove (Some w) = refl
   touched-is (Insert x) (Some w) = refl
 
-  -- a value left as it was shown changes nothing
+  -- an update that keeps the value as shown changes nothing
   kept : (k : List ℕ) (r : SlotUpdate V) (w : Option V) (m : List (List ℕ × V))
       (res : Result (Outcome V) (UpdateError V)) (n : List (List ℕ × V))
       → ((v : V) → lookup k m ≡ Some v → put k v m ≡ m)

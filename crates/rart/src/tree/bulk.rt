@@ -1,30 +1,25 @@
 //! Bulk loads: trees built bottom up from items that ascend, each node made once.
-ghost use Rattle.std.specs.Prelude.{◌≡◌, ◌<◌, ◌≤◌, ◌∷◌, List, length, map, IfErr, IfOk, OnErr, OnOk};
+ghost use Rattle.std.specs.Prelude.{◌≡◌, ◌<◌, ◌≤◌, List, length, IfErr, IfOk, OnErr, OnOk};
 ghost use Rattle.std.specs.Iterator.{IsFinite};
-ghost use Rattle.std.specs.Vec.Iter.{into_iter_items};
 ghost use Rattle.rart_keys.specs.ByteStrings.{IsLess};
-ghost use Rattle.rart_keys.specs.SortedMap.{IsAscending, keys_of, values_of};
-ghost use Rattle.rart_trie.specs.build.Stretches.{AreWithin};
-ghost use Rattle.rart_trie.specs.build.ValueCalls.{CanTake, Takes};
+ghost use Rattle.rart_keys.specs.SortedMap.{keys_of, values_of};
 ghost use Rattle.rart_trie.specs.shapes.Shape.{HasShape};
-ghost use Rattle.rart_trie.specs.shapes.KeyLists.{keys_in, unit_pairs};
-ghost use Rattle.rart.specs.BulkLoads.{AreKeysAt, AscendAlong, LoadsSorted, Reads, ReadsAll, FailsByIndex, FailsSorted};
-ghost use Rattle.rart.specs.BulkLoads.{FailsUnique, TakesBeginning};
+ghost use Rattle.rart.specs.BulkLoads.{AreKeysAt, AscendAlong, CanTake, LoadsSorted, Reads, ReadsAll, Takes};
+ghost use Rattle.rart.specs.BulkLoads.{FailsByIndex, FailsSorted, FailsUnique, TakesBeginning};
 ghost use Rattle.rart.specs.Steps.{pairs_in};
 
 use crate::bulk::BulkError;
 use crate::tree::{AdaptiveRadixTree, MAX_PAIRS};
 use rart_keys::KeyTrait;
-use rart_keys::laws::bulk_lists::bulk_lists;
-use rart_nodes::node::DefaultNode;
 use std::alloc::Global;
 use std::marker::PhantomData;
 
-mod keys;
+mod indexed;
+pub(crate) mod loader;
 mod migrate;
 mod read;
 
-use keys::{keys_by_index, keys_in_slice, longest_of};
+use indexed::build_by_index;
 use read::{read_sorted, read_unique};
 
 impl<K: KeyTrait, V: Drop> AdaptiveRadixTree<K, V> {
@@ -58,9 +53,8 @@ impl<K: KeyTrait, V: Drop> AdaptiveRadixTree<K, V> {
         ensures refused { IfErr result (λ error. Reads I.into_iter_gives I.IntoIter.next_gives items
             (λ xs. FailsSorted (pairs_in K.bytes xs) error)) }
     {
-        bulk_lists::<V>();
-        let (keys, values) = read_sorted(alloc, items)?;
-        AdaptiveRadixTree::of_keys_and_values(alloc, &keys, values)
+        let loader = read_sorted(alloc, items)?;
+        loader.into_tree()
     }
 
     /// Builds the tree of `items`, which must end and whose keys must ascend strictly.
@@ -83,8 +77,8 @@ impl<K: KeyTrait, V: Drop> AdaptiveRadixTree<K, V> {
         ensures refused { IfErr result (λ error. Reads I.into_iter_gives I.IntoIter.next_gives items
             (λ xs. FailsUnique (pairs_in K.bytes xs) error)) }
     {
-        let (keys, values) = read_unique(alloc, items)?;
-        AdaptiveRadixTree::of_keys_and_values(alloc, &keys, values)
+        let loader = read_unique(alloc, items)?;
+        loader.into_tree()
     }
 
     /// Builds the tree of `len` keys, each with the value at its index.
@@ -170,66 +164,14 @@ impl<K: KeyTrait, V: Drop> AdaptiveRadixTree<K, V> {
         if len == 0 {
             return Ok(AdaptiveRadixTree::new(alloc));
         }
-        let keys = keys_by_index(alloc, len, &key_at)?;
-        AdaptiveRadixTree::of_byte_strings(alloc, &keys, take_value_at)
-    }
-
-    /// Builds the tree of these keys, which ascend strictly, with the values in their order. Fails with `Memory` alone,
-    /// and never without keys.
-    pub(super) fn of_keys_and_values(
-        alloc: Global,
-        keys: &[K],
-        values: Vec<V>,
-    ) -> Result<Self, BulkError>
-        requires each { length keys.now ≡ length values.items }
-        requires ascending { IsAscending (unit_pairs (map K.bytes keys.now)) }
-        requires at_most { length keys.now ≤ MAX_PAIRS }
-        ensures keys { IfOk result (λ tree. keys_of tree.pairs ≡ map K.bytes keys.now) }
-        ensures values { IfOk result (λ tree. values_of tree.pairs ≡ values.items) }
-        ensures shape { IfOk result (λ tree. HasShape (keys_of tree.pairs) tree.nodes) }
-        ensures memory { IfErr result (λ e. e ≡ BulkError.Memory) }
-        ensures allocates { OnErr result (0 < length keys.now) }
-    {
-        if keys.is_empty() {
-            return Ok(AdaptiveRadixTree::new(alloc));
-        }
-        let strings = keys_in_slice(alloc, keys)?;
-        let mut values = values.into_iter();
-        let mut take_value = |_: usize|
-            requires { 0 < length (into_iter_items values) }
-            ensures { into_iter_items values.entry ≡ result ∷ into_iter_items values.exit }
-        { values.next().unwrap() };
-        AdaptiveRadixTree::of_byte_strings(alloc, &strings, &mut take_value)
-    }
-
-    /// Builds the tree of at least one key with these bytes, which ascend strictly. Takes the value of each once, in
-    /// their order. Fails with `Memory` alone; a beginning of the values was then taken.
-    fn of_byte_strings<F: FnMut(usize) -> V>(
-        alloc: Global,
-        keys: &[&[u8]],
-        take_value: &mut F,
-    ) -> Result<Self, BulkError>
-        requires nonempty { 0 < length keys.now }
-        requires at_most { length keys.now ≤ MAX_PAIRS }
-        requires within { AreWithin K.MAXIMUM_SIZE (keys_in keys.now) }
-        requires ascending { IsAscending (unit_pairs (keys_in keys.now)) }
-        requires callable { CanTake F.pre F.step 0 (length keys.now) take_value.old }
-        ensures keys { IfOk result (λ tree. keys_of tree.pairs ≡ keys_in keys.now) }
-        ensures values { IfOk result
-            (λ tree. Takes F.step 0 take_value.old (values_of tree.pairs) take_value.new) }
-        ensures values_taken { OnErr result ((vs : List V) × (length vs ≤ length keys.now)
-            × Takes F.step 0 take_value.old vs take_value.new) }
-        ensures shape { IfOk result (λ tree. HasShape (keys_of tree.pairs) tree.nodes) }
-        ensures memory { IfErr result (λ e. e ≡ BulkError.Memory) }
-    {
-        let Ok(root) = DefaultNode::build(alloc, keys, take_value) else {
+        let Ok((root, longest)) = build_by_index(alloc, len, &key_at, take_value_at) else {
             return Err(BulkError::Memory);
         };
         root.canonical();
         Ok(AdaptiveRadixTree {
             root: Some(root),
-            len: keys.len(),
-            longest: longest_of(keys),
+            len,
+            longest,
             alloc,
             of: PhantomData,
         })

@@ -1,9 +1,10 @@
 //! The clone of a tree.
-ghost use Rattle.std.specs.Prelude.{◌≡◌, ◌≢◌, ◌≤◌, [], length, map, IfOk, OnErr};
+ghost use Rattle.std.specs.Prelude.{◌≡◌, ◌≢◌, [], IfOk, OnErr};
 ghost use Rattle.std.specs.List.{AllZip};
 ghost use Rattle.rart_keys.specs.SortedMap.{keys_of, values_of};
 
-use crate::tree::{AdaptiveRadixTree, MAX_PAIRS};
+use crate::tree::AdaptiveRadixTree;
+use crate::tree::bulk::loader::Loader;
 use rart_keys::KeyTrait;
 use std::alloc::AllocError;
 
@@ -25,32 +26,32 @@ impl<K: KeyTrait + Drop, V: Clone> Clone for AdaptiveRadixTree<K, V> {
     fn clone(&self) -> Result<Self, AllocError> {
         self.canonical();
         rart_laws::one_shape();
-        let (keys, values) = read_clones(self)?;
-        let Ok(tree) = AdaptiveRadixTree::of_keys_and_values(self.alloc, &keys, values) else {
+        let loader = read_clones(self)?;
+        let Ok(tree) = loader.into_tree() else {
             return Err(AllocError);
         };
         Ok(tree)
     }
 }
 
-/// Returns the keys of a tree and the clones of their values. Allocates for both before the first is read.
+/// Returns the pairs of a tree, with the clone of each value.
 fn read_clones<K: KeyTrait + Drop, V: Clone>(
     old: &AdaptiveRadixTree<K, V>,
-) -> Result<(Vec<K>, Vec<V>), AllocError>
-    ensures keys { IfOk result (λ r. map K.bytes r.0.items ≡ keys_of old.now.pairs) }
+) -> Result<Loader<K, V>, AllocError>
+    ensures keys { IfOk result (λ m. keys_of m ≡ keys_of old.now.pairs) }
     ensures values { IfOk result
-        (λ r. AllZip V.is_clone (values_of old.now.pairs) r.1.items) }
-    ensures at_most { IfOk result (λ r. length r.0.items ≤ MAX_PAIRS) }
+        (λ m. AllZip V.is_clone (values_of old.now.pairs) (values_of m)) }
     ensures allocates { OnErr result (old.now.pairs ≢ []) }
 {
-    let mut keys = Vec::with_capacity(old.alloc, old.len())?;
-    let mut values = Vec::with_capacity(old.alloc, old.len())?;
+    old.canonical();
+    let mut loader = Loader::new(old.alloc);
     let Ok(mut rest) = old.iter() else {
         return Err(AllocError);
     };
     while let Some((key, value)) = rest.next() {
-        keys.push_reserved(key);
-        values.push_reserved(value.clone()?);
+        let Ok(()) = loader.append(key, value.clone()?) else {
+            return Err(AllocError);
+        };
     }
-    Ok((keys, values))
+    Ok(loader)
 }

@@ -114,7 +114,7 @@ pub fn wanted_retain(model: &mut Model, call: &Call) -> u64 {
     sum
 }
 
-/// A walk that ended at a refused removal, as far as it was followed.
+/// A walk that ended at a refused removal: the pairs that it had visited by then.
 #[derive(Clone, Copy)]
 struct Retained {
     // The key whose removal was refused.

@@ -32,6 +32,84 @@ fn retain<K: KeyTrait>(
     }
 }
 
+// Keeps the pairs of a rule among those below a prefix.
+fn prefix_retain<K: KeyTrait + Drop>(
+    tree: &mut Tree<K>,
+    asked: &Asked<'_, K>,
+    answer: &mut Answer,
+) -> Result<(), TreeError> {
+    let (rule, added, form) = (asked.args().rule, asked.args().value, asked.form);
+    let mut keep = |key: &[u8], value: &mut u64| {
+        answer.pair(key, *value);
+        let is_kept = rule.keeps(key, *value);
+        *value = (*value).wrapping_add(added);
+        is_kept
+    };
+    match (form.lends(), form.gives_bytes()) {
+        (true, true) => tree.prefix_retain_by_ref_bytes(asked.bytes(), &mut keep),
+        (true, false) => tree.prefix_retain_by_ref_k(&asked.key, &mut keep),
+        (false, true) => tree.prefix_retain_bytes(asked.bytes(), keep),
+        (false, false) => {
+            if form.takes_key() {
+                tree.prefix_retain(asked.taken(), keep)
+            } else {
+                tree.prefix_retain_k(&asked.key, keep)
+            }
+        }
+    }
+}
+
+// Keeps the pairs of a rule among those within two bounds, which are keys.
+fn range_retain<K: KeyTrait + Drop>(
+    tree: &mut Tree<K>,
+    asked: &Asked<'_, K>,
+    answer: &mut Answer,
+) -> Result<(), TreeError> {
+    let (rule, added) = (asked.args().rule, asked.args().value);
+    let mut keep = |key: &[u8], value: &mut u64| {
+        answer.pair(key, *value);
+        let is_kept = rule.keeps(key, *value);
+        *value = (*value).wrapping_add(added);
+        is_kept
+    };
+    if asked.form.lends() {
+        tree.range_retain_by_ref(asked.start(), asked.end(), &mut keep)
+    } else {
+        tree.range_retain(asked.start(), asked.end(), keep)
+    }
+}
+
+// Keeps the pairs of a rule among those within two bounds, which are bytes.
+fn range_retain_bytes<K: KeyTrait + Drop>(
+    tree: &mut Tree<K>,
+    asked: &Asked<'_, K>,
+    answer: &mut Answer,
+) -> Result<(), TreeError> {
+    let (rule, added) = (asked.args().rule, asked.args().value);
+    let mut keep = |key: &[u8], value: &mut u64| {
+        answer.pair(key, *value);
+        let is_kept = rule.keeps(key, *value);
+        *value = (*value).wrapping_add(added);
+        is_kept
+    };
+    if asked.form.lends() {
+        tree.range_retain_by_ref_bytes(asked.start_bytes(), asked.end_bytes(), &mut keep)
+    } else {
+        tree.range_retain_bytes(asked.start_bytes(), asked.end_bytes(), keep)
+    }
+}
+
+fn remove_range<K: KeyTrait + Drop>(
+    tree: &mut Tree<K>,
+    asked: &Asked<'_, K>,
+) -> Result<usize, TreeError> {
+    if asked.form.gives_bytes() {
+        tree.remove_range_bytes(asked.start_bytes(), asked.end_bytes())
+    } else {
+        tree.remove_range(asked.start(), asked.end())
+    }
+}
+
 fn remove_prefix<K: KeyTrait + Drop>(
     tree: &mut Tree<K>,
     asked: &Asked<'_, K>,
@@ -66,14 +144,37 @@ fn taken<K: KeyTrait + Drop>(
     }
 }
 
-// Moves the pairs below a prefix into the other tree, whose own pairs are dropped.
-fn take_prefix<K: KeyTrait + Drop>(
+fn taken_range<K: KeyTrait + Drop>(
     tree: &mut Tree<K>,
-    other: &mut Tree<K>,
     asked: &Asked<'_, K>,
+) -> Result<Tree<K>, TreeError> {
+    if asked.form.gives_bytes() {
+        tree.take_range_bytes(asked.start_bytes(), asked.end_bytes())
+    } else {
+        tree.take_range(asked.start(), asked.end())
+    }
+}
+
+fn split_off<K: KeyTrait + Drop>(
+    tree: &mut Tree<K>,
+    asked: &Asked<'_, K>,
+) -> Result<Tree<K>, TreeError> {
+    if asked.form.takes_key() {
+        tree.split_off(asked.taken())
+    } else if asked.form.gives_bytes() {
+        tree.split_off_bytes(asked.bytes())
+    } else {
+        tree.split_off_k(&asked.key)
+    }
+}
+
+// Moves the pairs that were taken into the other tree, whose own pairs are dropped.
+fn put_taken<K: KeyTrait>(
+    taken: Result<Tree<K>, TreeError>,
+    other: &mut Tree<K>,
     answer: &mut Answer,
 ) {
-    match taken(tree, asked) {
+    match taken {
         Ok(part) => {
             answer.count(part.len());
             *other = part;
@@ -117,8 +218,35 @@ pub fn edit_many<K: KeyTrait + Drop>(
             let done = retain(tree, asked.args(), asked.form, answer);
             put_walked(done, answer);
         }
+        Many::PrefixRetain => {
+            let done = prefix_retain(tree, asked, answer);
+            put_walked(done, answer);
+        }
+        Many::RangeRetain => {
+            let done = if asked.form.gives_bytes() {
+                range_retain_bytes(tree, asked, answer)
+            } else {
+                range_retain(tree, asked, answer)
+            };
+            put_walked(done, answer);
+        }
+        Many::RangeRetainBytes => {
+            let done = range_retain_bytes(tree, asked, answer);
+            put_walked(done, answer);
+        }
+        Many::RemoveRange => put_removed_count(remove_range(tree, asked), answer),
+        Many::RemoveRangeBytes => {
+            let removed = tree.remove_range_bytes(asked.start_bytes(), asked.end_bytes());
+            put_removed_count(removed, answer);
+        }
         Many::RemovePrefix => put_removed_count(remove_prefix(tree, asked), answer),
-        Many::TakePrefix => take_prefix(tree, other, asked, answer),
+        Many::TakePrefix => put_taken(taken(tree, asked), other, answer),
+        Many::TakeRange => put_taken(taken_range(tree, asked), other, answer),
+        Many::TakeRangeBytes => {
+            let taken = tree.take_range_bytes(asked.start_bytes(), asked.end_bytes());
+            put_taken(taken, other, answer);
+        }
+        Many::SplitOff => put_taken(split_off(tree, asked), other, answer),
         Many::IntoPairs => into_pairs(alloc, tree, answer),
     }
 }

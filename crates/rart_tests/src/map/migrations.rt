@@ -213,15 +213,15 @@ fn count_refused_of_walk(alloc: Global, old: &Tree) -> Option<usize> {
     None
 }
 
-// Whether exactly the size of the walk and of a list of keys and one of values is requested, where a key has no closing
-// zero. Where nothing can be refused, nothing is reported.
+// Whether exactly what a walk requests is requested, where a key has no closing zero: no node is made before all keys
+// are tested. Where nothing can be refused, nothing is reported.
 fn requests_no_node(alloc: Global, old: &Tree) -> bool {
     match (
         count_refused_of_open(alloc, old),
         count_refused_of_walk(alloc, old),
     ) {
         (Some(0), Some(0)) => true,
-        (Some(many), Some(of_walk)) => of_walk > 0 && many == of_walk.wrapping_add(2),
+        (Some(many), Some(of_walk)) => of_walk > 0 && many == of_walk,
         _ => false,
     }
 }

@@ -1,13 +1,12 @@
 -- A walk that lends the values within two bounds: at a node, at its own value, and at its children.
-use Rattle.std.proofs.Common.{◌≡◌, ℕ, suc, ◌<◌, ◌≤◌, ⊎_elim, ◌&&◌, ◌||◌, Bool, true, false, List, [], ◌∷◌, ◌++◌}
-use Rattle.std.proofs.Common.{refl, sym, ap, ap₂, ◌∙◌, arith, subst, Option, Some, None, MutBor, option_map}
+use Rattle.std.proofs.Common.{◌≡◌, ℕ, ◌<◌, ◌||◌, Bool, true, false, List, [], ◌∷◌, ◌++◌, refl, sym, ap, ◌∙◌, arith}
+use Rattle.std.proofs.Common.{subst}
+use Rattle.std.proofs.Common.{Option, Some, None, MutBor, option_map}
 use Rattle.std.specs.Prelude.{slice_get}
 use Rattle.std.specs.Fn.{CalledAtMut, Mut}
 use Rattle.std.specs.declared.ops.Bound.{Bound}
-use Rattle.std.proofs.lemmas.Bool.{and_right, cases_lt}
-use Rattle.std.proofs.lemmas.List.Elements.{filter-append}
 use Rattle.rart_keys.specs.ByteStrings.{begins}
-use Rattle.rart_keys.specs.Ranges.{between, bound_bytes, is_from, is_to}
+use Rattle.rart_keys.specs.Ranges.{between, bound_bytes}
 use Rattle.rart_keys.specs.SortedMap.{values_of}
 use Rattle.rart_parts.specs.Entries.{entries_above}
 use Rattle.rart_trie.specs.declared.node.ends.End.TheVariants.{First, Last}
@@ -23,93 +22,17 @@ use Rattle.rart_trie.proofs.changes.ValueChangeLemmas.{pairs_where, where-after,
 use Rattle.rart_trie.proofs.changes.ValueWalkLemmas.{Changing, all-callable, changing-end, changing-from, changing-over}
 use Rattle.rart_trie.proofs.changes.ValueWalkLemmas.{changing-skip, values-where}
 use Rattle.rart_trie.proofs.edits.CallbackLemmas.{can-first}
-use Rattle.rart_trie.proofs.ranges.BoundCutLemmas.{in-at, in-past, is_in_some, later-none, no-bytes, none-before}
-use Rattle.rart_trie.proofs.ranges.BoundCutLemmas.{none-of}
-use Rattle.rart_trie.proofs.storages.ChildLemmas.{lt-no}
-use Rattle.rart_trie.proofs.storages.EntryPlaces.{above-all, ahead_count, tail-canonical}
-use Rattle.rart_trie.proofs.tries.FirstBytes.{AllFirst, pairs_of-first}
-
--- whether a key is within both bounds
-abbrev pub is_between : Bound (List ℕ) → Bound (List ℕ) → List ℕ → Bool
-is_between a b k = is_from a k && is_to b k
-
--- without a bound each is
-unbounded : (a b : Bound (List ℕ)) (k : List ℕ) → is_bounded a || is_bounded b ≡ false → is_between a b k ≡ true
-unbounded a b k h = let n = none-of (is_bounded a) (is_bounded b) h in rw (no-bytes a n.0, no-bytes b n.1) refl
-
--- after a prefix
-past-between : (a b o u : Bound (List ℕ)) (p k : List ℕ) → bound_past First p a ≡ Some o → bound_past Last p b ≡ Some u
-    → is_between a b (p ++ k) ≡ is_between o u k
-past-between a b o u p k x y = ap₂ (λ i j. i && j) (in-past First p a k ∙ ap (λ z. is_in_some First z k) x)
-    (in-past Last p b k ∙ ap (λ z. is_in_some Last z k) y)
-
-past-start : (a b : Bound (List ℕ)) (p k : List ℕ) → bound_past First p a ≡ None → is_between a b (p ++ k) ≡ false
-past-start a b p k x = ap (λ z. z && is_to b (p ++ k)) (in-past First p a k ∙ ap (λ z. is_in_some First z k) x)
-
-past-end : (a b : Bound (List ℕ)) (p k : List ℕ) → bound_past Last p b ≡ None → is_between a b (p ++ k) ≡ false
-past-end a b p k x = and_right (is_from a (p ++ k)) (is_to b (p ++ k))
-    (in-past Last p b k ∙ ap (λ z. is_in_some Last z k) x)
-
--- after a byte
-at-between : (a b o u : Bound (List ℕ)) (c : ℕ) (k : List ℕ) → StartsWith c k → Some o ≡ bound_at First c a
-    → Some u ≡ bound_at Last c b → is_between a b k ≡ is_between o u k
-at-between a b o u c k f x y = ap₂ (λ i j. i && j) (in-at First c a k f ∙ ap (λ z. is_in_some First z k) (sym x))
-    (in-at Last c b k f ∙ ap (λ z. is_in_some Last z k) (sym y))
-
-at-start : (a b : Bound (List ℕ)) (c : ℕ) (k : List ℕ) → StartsWith c k → bound_at First c a ≡ None
-    → is_between a b k ≡ false
-at-start a b c k f x = ap (λ z. z && is_to b k) (in-at First c a k f ∙ ap (λ z. is_in_some First z k) x)
-
-at-end : (a b : Bound (List ℕ)) (c : ℕ) (k : List ℕ) → StartsWith c k → bound_at Last c b ≡ None
-    → is_between a b k ≡ false
-at-end a b c k f x = and_right (is_from a k) (is_to b k) (in-at Last c b k f ∙ ap (λ z. is_in_some Last z k) x)
+use Rattle.rart_trie.proofs.ranges.BetweenLemmas.{at-between, at-end, at-start, is_between, past-between, past-end}
+use Rattle.rart_trie.proofs.ranges.BetweenLemmas.{past-start, unbounded}
+use Rattle.rart_trie.proofs.ranges.BoundCutLemmas.{later-none, none-before}
+use Rattle.rart_trie.proofs.ranges.PassedChildren.{later-children, none-first, skipped}
+use Rattle.rart_trie.proofs.storages.EntryPlaces.{ahead_count, tail-canonical}
+use Rattle.rart_trie.proofs.tries.FirstBytes.{pairs_of-first}
 
 module _ {V : Type 0} where
-  none-first : (t : List ℕ → Bool) (c : ℕ) (es : List (List ℕ × V)) → ((k : List ℕ) → StartsWith c k → t k ≡ false)
-      → AllFirst c es → pairs_where t es ≡ []
-  none-first t c es h f = where-agree t (λ k. false) es (agree-first c t (λ k. false) es h f) ∙ where-none es
-
   none-after : (t : List ℕ → Bool) (q : List ℕ) (es : List (List ℕ × V)) → ((k : List ℕ) → t (q ++ k) ≡ false)
       → pairs_where t (with_prefix q es) ≡ []
   none-after t q es h = where-after t (λ k. false) q es h ∙ ap (with_prefix q) (where-none es)
-
-  -- no key of the children after one that is past the end is within it
-  later-children : (a b : Bound (List ℕ)) (c low : ℕ) (es : List (ℕ × Trie V)) → c ≤ low
-      → AreCanonical low (as_children es) → bound_at Last c b ≡ None
-      → pairs_where (is_between a b) (children_pairs (as_children es)) ≡ []
-  later-children a b c low [] l w n = refl
-  later-children a b c low (e ∷ es) l w n =
-      filter-append (λ x. is_between a b x.0) (pairs_of e.1) (children_pairs (as_children es))
-      ∙ ap₂ (λ xs ys. xs ++ ys) (none-first (is_between a b) e.0 (pairs_of e.1)
-      (λ k f. at-end a b e.0 k f (later-none b c e.0 (omega (arith, l, w.0)) n)) (pairs_of-first e.0 e.1 w.1))
-      (later-children a b c (suc e.0) es (omega (arith, l, w.0)) w.3 n)
-
-  -- nor one of those up to the byte below the start
-  record Skipped (t : List ℕ → Bool) (d : ℕ) (es : List (ℕ × Trie V)) : Type 0 where
-    pub done : List (ℕ × Trie V)
-    pub whole : es ≡ done ++ entries_above d es
-    pub none : pairs_where t (children_pairs (as_children done)) ≡ []
-
-  skipped-none : (t : List ℕ → Bool) (d : ℕ) (es : List (ℕ × Trie V)) → entries_above d es ≡ es → Skipped t d es
-  skipped-none t d es e = record { done = []; whole = sym e; none = refl }
-
-  skipped-one : (a b : Bound (List ℕ)) (d : ℕ) (e : ℕ × Trie V) (es : List (ℕ × Trie V)) → e.0 ≤ d
-      → StartsWith e.0 (prefix_of e.1) → byte_below (bound_bytes a) ≡ Some d → Skipped (is_between a b) d es
-      → Skipped (is_between a b) d (e ∷ es)
-  skipped-one a b d e es l s h w = record {
-    done = e ∷ w.done;
-    whole = rw (lt-no d e.0 l) (ap (λ z. e ∷ z) w.whole);
-    none = filter-append (λ x. is_between a b x.0) (pairs_of e.1) (children_pairs (as_children w.done))
-        ∙ ap₂ (λ xs ys. xs ++ ys) (none-first (is_between a b) e.0 (pairs_of e.1)
-        (λ k f. at-start a b e.0 k f (none-before a d e.0 h l)) (pairs_of-first e.0 e.1 s)) w.none;
-  }
-
-  skipped : (a b : Bound (List ℕ)) (d low : ℕ) (es : List (ℕ × Trie V)) → AreCanonical low (as_children es)
-      → byte_below (bound_bytes a) ≡ Some d → Skipped (is_between a b) d es
-  skipped a b d low [] w h = skipped-none (is_between a b) d [] refl
-  skipped a b d low (e ∷ es) w h = ⊎_elim
-      (λ l. skipped-none (is_between a b) d (e ∷ es) (above-all d e.0 (e ∷ es) l (omega arith, w.1, w.2, w.3)))
-      (λ l. skipped-one a b d e es l w.1 h (skipped a b d (suc e.0) es w.3 h)) (cases_lt d e.0)
 
 module _ {F V : Type 0} (call : Mut F (MutBor V × Unit {0}) (Unit {0} × (MutBor V × Unit {0}))) where
   -- a node without a bound
@@ -180,7 +103,7 @@ module _ {F V : Type 0} (call : Mut F (MutBor V × Unit {0}) (Unit {0} × (MutBo
   within-start a b o u None p v w n es f g next x y i c h k z = changing-from call (is_between o u) p v w n [] es es f g
       next refl refl c h (node-callable a b o u p (own_pair v ++ children_pairs (as_children es)) f x y k) z
   within-start a b o u (Some d) p v w n es f g next x y i c h k z =
-      let s = skipped o u d 0 es c.2 i in
+      let s = skipped (is_between o u) d 0 es c.2 (λ e l k b. at-start o u e k b (none-before o d e i l)) in
       changing-from call (is_between o u) p v w n s.done (entries_above d es) es f g next s.whole s.none c h
       (node-callable a b o u p (own_pair v ++ children_pairs (as_children es)) f x y k) z
 
@@ -225,7 +148,8 @@ module _ {F V : Type 0} (call : Mut F (MutBor V × Unit {0}) (Unit {0} × (MutBo
           let first : Some c ≡ Some r.0 = i.ahead ∙ ap (λ z. option_map (λ e. e.0) (slice_get z 0)) e in
           let byte : c ≡ r.0 = cc in
           let all : AreCanonical 0 (as_children (i.left ++ r ∷ rest)) = rw (i.now, e) at i.canonical.2 in
-          rw e (later-children o u c r.0 (r ∷ rest) (omega (arith, byte)) (tail-canonical r 0 i.left rest all) (sym h))
+          rw e (later-children (is_between o u) c r.0 (r ∷ rest) (omega (arith, byte))
+          (tail-canonical r 0 i.left rest all) (λ d l k b. at-end o u d k b (later-none u c d l (sym h))))
 
   -- no child is left
   pub within-end : (a b o u : Bound (List ℕ)) (f0 : F) (t0 : Trie V) (f : F) (p : List ℕ) (w : Option V) (n : ℕ)

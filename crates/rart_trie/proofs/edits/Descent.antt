@@ -14,7 +14,7 @@ use Rattle.rart_trie.specs.tries.Trie.{put_child, put_overlap, put_split, fittin
 abbrev pub first : List ℕ → ℕ
 first k = get_or k 0 0
 
-pub common-within : (p k : List ℕ) → (common_prefix_len nat_eq p k ≤ length p)
+common-within : (p k : List ℕ) → (common_prefix_len nat_eq p k ≤ length p)
     × (common_prefix_len nat_eq p k ≤ length k)
 common-within [] k = (omega arith, omega arith)
 common-within (x ∷ p) [] = (omega arith, omega arith)

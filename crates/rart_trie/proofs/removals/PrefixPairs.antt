@@ -23,7 +23,7 @@ use Rattle.rart_trie.proofs.tries.BelowLemmas.{below-after_some, below-apart, be
 
 module _ {V : Type 0} where
   -- the pairs that are left
-  pairs-collapsed : (p : List ℕ) (v : Option V) (cs : Children V)
+  pub pairs-collapsed : (p : List ℕ) (v : Option V) (cs : Children V)
       → tree_pairs (collapsed_node p v cs) ≡ with_prefix p (own_pair v ++ children_pairs cs)
   pairs-collapsed p None no_children = refl
   pairs-collapsed p None (child b (node q v n cs) no_children)
@@ -32,7 +32,7 @@ module _ {V : Type 0} where
   pairs-collapsed p None (child b t (child c u cs)) = refl
   pairs-collapsed p (Some v) cs = refl
 
-  pairs-child_if : (c : ℕ) (o : Option (Trie V)) (cs : Children V)
+  pub pairs-child_if : (c : ℕ) (o : Option (Trie V)) (cs : Children V)
       → children_pairs (child_if c o cs) ≡ tree_pairs o ++ children_pairs cs
   pairs-child_if c None cs = refl
   pairs-child_if c (Some t) cs = refl

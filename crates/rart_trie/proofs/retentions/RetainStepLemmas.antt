@@ -1,19 +1,20 @@
 -- After the walk over a child: what is done with it, and how the walk over its parent continues.
-use Rattle.std.proofs.Common.{◌≡◌, ℕ, suc, ◌+◌, ◌<◌, ◌≤◌, ⊎_elim, inl, inr, Bool, true, false, List, [], ◌∷◌, ◌++◌}
+use Rattle.std.proofs.Common.{◌≡◌, ℕ, ◌+◌, ◌<◌, ◌≤◌, ⊎_elim, inl, inr, Bool, true, false, List, [], ◌∷◌, ◌++◌}
 use Rattle.std.proofs.Common.{length, refl, sym, ap, ◌∙◌, arith, subst, Option, Some, None, MutBor, is_some, option_map}
 use Rattle.std.proofs.Common.{length-append, if◌then◌else◌}
 use Rattle.std.specs.Prelude.{slice_get}
 use Rattle.std.specs.Borrow.{Bor}
 use Rattle.std.specs.Fn.{Mut}
 use Rattle.std.proofs.lemmas.List.{append-nil, append_assoc}
-use Rattle.rart_keys.proofs.strings.ByteOrder.{eq-yes, eq-no}
 use Rattle.rart_parts.specs.Entries.{child_at, entries_above, replaced_at, without_byte}
 use Rattle.rart_trie.specs.declared.node.edits.retain.Retention.{Retention}
 use Rattle.rart_trie.specs.declared.node.edits.retain.Retention.TheVariants.{Done, Rejected, Refused}
+use Rattle.rart_trie.specs.declared.node.part.Part.{Part}
 use Rattle.rart_trie.specs.declared.node.storage.Kind.{Kind}
-use Rattle.rart_trie.specs.edits.Retentions.{CallsFor, CanRetain, EndsBelowRefused, Fate, kept, removed, refused}
+use Rattle.rart_trie.specs.edits.Retentions.{CanRetain, EndsBelowRefused, Fate, kept, removed, refused}
 use Rattle.rart_trie.specs.edits.Retentions.{key_refused, refusals, refused_key, remaining_pairs}
-use Rattle.rart_trie.specs.edits.RetainSteps.{AppliesChild, KeepsFirst, RetainsBelow, next_byte}
+use Rattle.rart_trie.specs.edits.RetainSteps.{AppliesChild, CallsWhere, KeepsFirst, RetainsSubtree, next_byte}
+use Rattle.rart_trie.specs.ranges.Parts.{byte_within, is_in_part, pairs_in}
 use Rattle.rart_trie.specs.shapes.Shape.{capacity_of}
 use Rattle.rart_trie.specs.storages.Capacities.{shrunk_capacity}
 use Rattle.rart_trie.specs.storages.Stored.{child_entries, storage_capacity}
@@ -22,17 +23,18 @@ use Rattle.rart_trie.specs.tries.Trie.{children_in, children_pairs, pairs_of, pr
 use Rattle.rart_trie.specs.tries.TrieCode.{as_children}
 use Rattle.rart_trie.proofs.retentions.CallsAfterRefusal.{ends-append, ends-front, ends-none}
 use Rattle.rart_trie.proofs.retentions.RetainWalkLemmas.{Retaining, Upcoming, WalksOn, refusals_of}
+use Rattle.rart_trie.proofs.retentions.ChangedChildren.{middle-after, middle-other, middle-removed, middle-without}
 use Rattle.rart_trie.proofs.retentions.RetentionLemmas.{all_fulfilled, calls-append, calls-folds, calls-front}
 use Rattle.rart_trie.proofs.retentions.RetentionLemmas.{calls-fulfilled, calls-length, length-fulfilled}
 use Rattle.rart_trie.proofs.retentions.RetentionLemmas.{refusals-append, refusals-fulfilled, remaining-append}
 use Rattle.rart_trie.proofs.retentions.RetentionLemmas.{remaining-front, remaining-fulfilled, refused_key-append}
 use Rattle.rart_trie.proofs.retentions.RetentionLemmas.{refused_key-front, refused_key-only}
 use Rattle.rart_trie.proofs.changes.ValueChangeLemmas.{can-back}
+use Rattle.rart_trie.proofs.ranges.PartLemmas.{IsAhead, ahead-few, ahead-is}
 use Rattle.rart_trie.proofs.removals.PopLemmas.{first-is, leaf-here}
 use Rattle.rart_trie.proofs.removals.RemoveSteps.{shrunk-capacity}
-use Rattle.rart_trie.proofs.storages.ChildLemmas.{lt-no}
-use Rattle.rart_trie.proofs.storages.EntryPlaces.{above-all, ahead-first, ahead_count, middle-above, middle-at}
-use Rattle.rart_trie.proofs.storages.EntryPlaces.{middle-low, middle-replaced, pairs-append}
+use Rattle.rart_trie.proofs.storages.EntryPlaces.{ahead_count, back-canonical, middle-above, middle-at, middle-first}
+use Rattle.rart_trie.proofs.storages.EntryPlaces.{middle-replaced, pairs-append}
 use Rattle.rart_trie.proofs.tries.FirstBytes.{AllFirst, pairs_of-first}
 
 -- a refused key begins with a byte if they all do
@@ -43,42 +45,6 @@ key-first b k removed o j s f h = f h
 key-first b k refused o j s f h = let same : k ≡ j = cc in rw (← same) s
 
 module _ {V : Type 0} where
-  -- another child in the place of one, with the same byte
-  middle-other : (b low : ℕ) (u x : Trie V) (xs ys : List (ℕ × Trie V))
-      → AreCanonical low (as_children (xs ++ (b, u) ∷ ys)) → IsCanonical x → KeepsFirst (prefix_of u) (prefix_of x)
-      → AreCanonical low (as_children (xs ++ (b, x) ∷ ys))
-  middle-other b low u x [] ys c d k = (c.0, k b c.1, d, c.3)
-  middle-other b low u x (e ∷ xs) ys c d k = (c.0, c.1, c.2, middle-other b (suc e.0) u x xs ys c.3 d k)
-
-  lower : (low high : ℕ) (ys : List (ℕ × Trie V)) → low ≤ high → AreCanonical high (as_children ys)
-      → AreCanonical low (as_children ys)
-  lower low high [] l c = tt
-  lower low high (y ∷ ys) l c = (omega (arith, l, c.0), c.1, c.2, c.3)
-
-  -- and without it
-  middle-removed : (b low : ℕ) (u : Trie V) (xs ys : List (ℕ × Trie V))
-      → AreCanonical low (as_children (xs ++ (b, u) ∷ ys)) → AreCanonical low (as_children (xs ++ ys))
-  middle-removed b low u [] ys c = lower low (suc b) ys (omega (arith, c.0)) c.3
-  middle-removed b low u (x ∷ xs) ys c = (c.0, c.1, c.2, middle-removed b (suc x.0) u xs ys c.3)
-
-  middle-without : (b low : ℕ) (u : Trie V) (xs ys : List (ℕ × Trie V))
-      → AreCanonical low (as_children (xs ++ (b, u) ∷ ys)) → without_byte b (xs ++ (b, u) ∷ ys) ≡ xs ++ ys
-  middle-without b low u [] ys c = rw (eq-yes b b refl) refl
-  middle-without b low u (x ∷ xs) ys c
-      = rw (eq-no x.0 b (λ q. omega (arith, q, middle-low b (suc x.0) u xs ys c.3)))
-      (ap (λ z. x ∷ z) (middle-without b (suc x.0) u xs ys c.3))
-
-  middle-after : (b low : ℕ) (u : Trie V) (xs ys : List (ℕ × Trie V))
-      → AreCanonical low (as_children (xs ++ (b, u) ∷ ys)) → entries_above b (xs ++ ys) ≡ ys
-  middle-after b low u [] ys c = above-all b (suc b) ys (omega arith) c.3
-  middle-after b low u (x ∷ xs) ys c = rw (lt-no b x.0 (omega (arith, middle-low b (suc x.0) u xs ys c.3)))
-      (middle-after b (suc x.0) u xs ys c.3)
-
-  pub none-first : (rest : List (ℕ × Trie V)) → ◌≡◌ {A = Option ℕ} None (option_map (λ e. e.0) (slice_get rest 0))
-      → rest ≡ []
-  none-first [] h = refl
-  none-first (x ∷ rest) h = absurd (cc)
-
   no-entries : (es : List (ℕ × Trie V)) → length es ≡ 0 → es ≡ []
   no-entries [] h = refl
   no-entries (e ∷ es) h = absurd (omega (arith, h))
@@ -123,27 +89,23 @@ module _ {V : Type 0} where
   refused-first b (e ∷ es) (x ∷ xs) j s h = key-first b e.0 x.1 (refused_key es xs) j s.0
       (λ i. refused-first b es xs j s.1 i) h
 
-  middle-first : (b low : ℕ) (u : Trie V) (xs ys : List (ℕ × Trie V))
-      → AreCanonical low (as_children (xs ++ (b, u) ∷ ys)) → StartsWith b (prefix_of u)
-  middle-first b low u [] ys c = c.1
-  middle-first b low u (x ∷ xs) ys c = middle-first b (suc x.0) u xs ys c.3
-
   length-middle : (xs ys : List (ℕ × Trie V)) (e : ℕ × Trie V) → length (xs ++ e ∷ ys) ≡ length (xs ++ ys) + 1
   length-middle xs ys e = omega (arith, length-append xs (e ∷ ys), length-append xs ys)
 
-module _ {F V : Type 0} (call : Mut F (Bor (List ℕ) × (MutBor V × Unit {0})) (Bool × (MutBor V × Unit {0}))) where
+module _ {F V : Type 0} (call : Mut F (Bor (List ℕ) × (MutBor V × Unit {0})) (Bool × (MutBor V × Unit {0})))
+    (s : Part) where
   -- The walk continues from `next`, with the entries `mid` in the place of the child u.
   visited : (q : List ℕ) (f0 : F) (t0 : Trie V) (keeps holds : Bool) (f g : F) (p : List ℕ) (w : Option V) (n m b : ℕ)
-      (es ds : List (ℕ × Trie V)) (u : Trie V) (i : Upcoming call q f0 t0 keeps holds f p w n b es u)
+      (es ds : List (ℕ × Trie V)) (u : Trie V) (i : Upcoming call s q f0 t0 keeps holds f p w n b es u)
       (walk : Retention) (mid : List (ℕ × Trie V)) (xs : List (V × Fate)) (next : Option ℕ)
       → ds ≡ i.left ++ (mid ++ i.rest) → AreCanonical 0 (as_children ds) → m ≡ capacity_of (length ds)
-      → (is_some w ≡ false → 0 < length ds) → CallsFor call (q ++ p) f (pairs_of u) xs g
+      → (is_some w ≡ false → 0 < length ds) → CallsWhere call (is_in_part s) (q ++ p) f (pairs_of u) xs g
       → children_pairs (as_children mid) ≡ remaining_pairs (pairs_of u) xs → refusals xs ≡ refusals_of walk
       → EndsBelowRefused (pairs_of u) xs
-      → WalksOn call walk (q ++ p) g w m (i.fates ++ xs) (i.done ++ (b, u) ∷ []) (i.left ++ mid) i.rest next
-      → Retaining call q f0 t0 keeps holds walk g p w m ds next
-  visited q f0 t0 keeps holds f g p w n m b es ds u i walk mid xs next d c v l a h r j s =
-      let some = calls-length call (q ++ p) (pairs_of u) xs f g a in
+      → WalksOn call s walk (q ++ p) g w m (i.fates ++ xs) (i.done ++ (b, u) ∷ []) (i.left ++ mid) i.rest next
+      → Retaining call s q f0 t0 keeps holds walk g p w m ds next
+  visited q f0 t0 keeps holds f g p w n m b es ds u i walk mid xs next d c v l a h r j y =
+      let some = calls-length call (is_in_part s) (q ++ p) (pairs_of u) xs f g a in
       let below : children_pairs (as_children (i.done ++ (b, u) ∷ []))
       ≡ children_pairs (as_children i.done) ++ (pairs_of u ++ []) = pairs-append i.done ((b, u) ∷ []) in record {
         own = i.own;
@@ -161,8 +123,9 @@ module _ {F V : Type 0} (call : Mut F (Bor (List ℕ) × (MutBor V × Unit {0}))
         first = i.first;
         called = i.called;
         fates = i.fates ++ xs;
-        calls = rw below (calls-append call (q ++ p) (children_pairs (as_children i.done)) (pairs_of u ++ []) i.fates xs
-            i.first f g i.whole i.calls (calls-front call (q ++ p) (pairs_of u) [] xs f g a));
+        calls = rw below (calls-append call (is_in_part s) (q ++ p) (children_pairs (as_children i.done)) (pairs_of u
+            ++ []) i.fates xs
+            i.first f g i.whole i.calls (calls-front call (is_in_part s) (q ++ p) (pairs_of u) [] xs f g a));
         stay = rw below (pairs-append i.left mid
             ∙ ap (λ z. z ++ children_pairs (as_children mid)) i.stay
             ∙ ap (λ z. remaining_pairs (children_pairs (as_children i.done)) i.fates ++ z)
@@ -171,12 +134,12 @@ module _ {F V : Type 0} (call : Mut F (Bor (List ℕ) × (MutBor V × Unit {0}))
         refused = refusals-append i.fates xs ∙ omega (arith, i.refused, r);
         ends = rw below (ends-append (children_pairs (as_children i.done)) (pairs_of u ++ []) i.fates xs i.whole
             i.refused (ends-front (pairs_of u) [] xs some j));
-        state = s;
+        state = y;
       }
 
   -- all pairs of the child were visited
   all-visited : (q : List ℕ) (f0 : F) (t0 : Trie V) (keeps holds : Bool) (f : F) (p : List ℕ) (w : Option V) (n b : ℕ)
-      (es : List (ℕ × Trie V)) (u : Trie V) (i : Upcoming call q f0 t0 keeps holds f p w n b es u)
+      (es : List (ℕ × Trie V)) (u : Trie V) (i : Upcoming call s q f0 t0 keeps holds f p w n b es u)
       (xs : List (V × Fate)) → length xs ≡ length (pairs_of u)
       → length (i.fates ++ xs) ≡ length (children_pairs (as_children (i.done ++ (b, u) ∷ [])))
   all-visited q f0 t0 keeps holds f p w n b es u i xs h = omega (
@@ -191,29 +154,31 @@ module _ {F V : Type 0} (call : Mut F (Bor (List ℕ) × (MutBor V × Unit {0}))
 
   -- f may be called with the pairs of the children that follow
   rest-callable : (q : List ℕ) (f0 : F) (t0 : Trie V) (keeps holds : Bool) (f g : F) (p : List ℕ) (w : Option V)
-      (n b : ℕ) (es : List (ℕ × Trie V)) (u : Trie V) (i : Upcoming call q f0 t0 keeps holds f p w n b es u)
-      (xs : List (V × Fate)) → length xs ≡ length (pairs_of u) → CallsFor call (q ++ p) f (pairs_of u) xs g
-      → CanRetain call g (with_prefix (q ++ p) (children_pairs (as_children i.rest)))
-  rest-callable q f0 t0 keeps holds f g p w n b es u i xs l a = can-back _ _ f g (with_prefix (q ++ p) (pairs_of u))
-      (with_prefix (q ++ p) (children_pairs (as_children i.rest)))
-      (calls-folds call (q ++ p) (pairs_of u) xs f g l a) i.later
+      (n b : ℕ) (es : List (ℕ × Trie V)) (u : Trie V) (i : Upcoming call s q f0 t0 keeps holds f p w n b es u)
+      (xs : List (V × Fate)) → length xs ≡ length (pairs_of u) → CallsWhere call (is_in_part s) (q ++ p) f (pairs_of
+      u) xs g
+      → CanRetain call g (with_prefix (q ++ p) (pairs_in s (children_pairs (as_children i.rest))))
+  rest-callable q f0 t0 keeps holds f g p w n b es u i xs l a = can-back _ _ f g
+      (with_prefix (q ++ p) (pairs_in s (pairs_of u)))
+      (with_prefix (q ++ p) (pairs_in s (children_pairs (as_children i.rest))))
+      (calls-folds call (is_in_part s) (q ++ p) (pairs_of u) xs f g l a) i.later
 
   -- the premises of a step, and its conclusion
   abbrev Steps : (q : List ℕ) (f0 : F) (t0 : Trie V) (keeps holds : Bool) (walk : Retention) (g : F) (p : List ℕ)
       (w : Option V) (m b : ℕ) (es ds : List (ℕ × Trie V)) (next : Option ℕ) → Type 0
-  Steps q f0 t0 keeps holds walk g p w m b es ds next = Retaining call q f0 t0 keeps holds walk g p w m ds next
+  Steps q f0 t0 keeps holds walk g p w m b es ds next = Retaining call s q f0 t0 keeps holds walk g p w m ds next
       × (ahead_count next ds < ahead_count (Some b) es)
 
   -- the child stays as x
   stays : (q : List ℕ) (f0 : F) (t0 : Trie V) (keeps holds : Bool) (f g : F) (p : List ℕ) (w : Option V) (n m b : ℕ)
-      (es ds : List (ℕ × Trie V)) (u x : Trie V) (i : Upcoming call q f0 t0 keeps holds f p w n b es u)
+      (es ds : List (ℕ × Trie V)) (u x : Trie V) (i : Upcoming call s q f0 t0 keeps holds f p w n b es u)
       (walk : Retention) (xs : List (V × Fate)) (next : Option ℕ) → IsCanonical x
       → KeepsFirst (prefix_of u) (prefix_of x) → m ≡ n → ds ≡ replaced_at b x es
-      → CallsFor call (q ++ p) f (pairs_of u) xs g → pairs_of x ≡ remaining_pairs (pairs_of u) xs
+      → CallsWhere call (is_in_part s) (q ++ p) f (pairs_of u) xs g → pairs_of x ≡ remaining_pairs (pairs_of u) xs
       → refusals xs ≡ refusals_of walk → EndsBelowRefused (pairs_of u) xs
-      → WalksOn call walk (q ++ p) g w m (i.fates ++ xs) (i.done ++ (b, u) ∷ []) (i.left ++ (b, x) ∷ []) i.rest next
-      → Retaining call q f0 t0 keeps holds walk g p w m ds next
-  stays q f0 t0 keeps holds f g p w n m b es ds u x i walk xs next c k v d a h r j s =
+      → WalksOn call s walk (q ++ p) g w m (i.fates ++ xs) (i.done ++ (b, u) ∷ []) (i.left ++ (b, x) ∷ []) i.rest next
+      → Retaining call s q f0 t0 keeps holds walk g p w m ds next
+  stays q f0 t0 keeps holds f g p w n m b es ds u x i walk xs next c k v d a h r j y =
       let changed : ds ≡ i.left ++ (b, x) ∷ i.rest = d ∙ ap (replaced_at b x) i.now
       ∙ middle-replaced b 0 u x i.left i.rest i.all in
       let same : length ds ≡ length es = omega (
@@ -226,18 +191,18 @@ module _ {F V : Type 0} (call : Mut F (Bor (List ℕ) × (MutBor V × Unit {0}))
       visited q f0 t0 keeps holds f g p w n m b es ds u i walk ((b, x) ∷ []) xs next changed
       (rw changed (middle-other b 0 u x i.left i.rest i.all c k)) (v ∙ i.capacity ∙ ap capacity_of (sym same))
       (λ z. omega (arith, ap length changed, length-middle i.left i.rest (b, x))) a
-      (append-nil (pairs_of x) ∙ h) r j s
+      (append-nil (pairs_of x) ∙ h) r j y
 
   -- the key whose removal was refused is one of the child's
   child-key : (q : List ℕ) (f0 : F) (t0 : Trie V) (keeps holds : Bool) (f g : F) (p : List ℕ) (w : Option V) (n b : ℕ)
-      (es : List (ℕ × Trie V)) (u : Trie V) (i : Upcoming call q f0 t0 keeps holds f p w n b es u)
-      (xs : List (V × Fate)) → CallsFor call (q ++ p) f (pairs_of u) xs g
+      (es : List (ℕ × Trie V)) (u : Trie V) (i : Upcoming call s q f0 t0 keeps holds f p w n b es u)
+      (xs : List (V × Fate)) → CallsWhere call (is_in_part s) (q ++ p) f (pairs_of u) xs g
       → refused_key (children_pairs (as_children (i.done ++ (b, u) ∷ []))) (i.fates ++ xs)
       ≡ refused_key (pairs_of u) xs
   child-key q f0 t0 keeps holds f g p w n b es u i xs a = ap (λ z. refused_key z (i.fates ++ xs))
       (pairs-append i.done ((b, u) ∷ []))
       ∙ refused_key-append (children_pairs (as_children i.done)) (pairs_of u ++ []) i.fates xs i.whole i.refused
-      ∙ refused_key-front (pairs_of u) [] xs (calls-length call (q ++ p) (pairs_of u) xs f g a)
+      ∙ refused_key-front (pairs_of u) [] xs (calls-length call (is_in_part s) (q ++ p) (pairs_of u) xs f g a)
 
   no-value : (w : Option V) → false ≡ is_some w → w ≡ None
   no-value None h = refl
@@ -245,85 +210,86 @@ module _ {F V : Type 0} (call : Mut F (Bor (List ℕ) × (MutBor V × Unit {0}))
 
   -- the walk is over
   stopped : (q : List ℕ) (f0 : F) (t0 : Trie V) (keeps holds : Bool) (f g : F) (p : List ℕ) (w : Option V) (n m b : ℕ)
-      (es ds : List (ℕ × Trie V)) (u : Trie V) (i : Upcoming call q f0 t0 keeps holds f p w n b es u)
+      (es ds : List (ℕ × Trie V)) (u : Trie V) (i : Upcoming call s q f0 t0 keeps holds f p w n b es u)
       (walk : Retention) (next : Option ℕ) → next ≡ None
-      → Retaining call q f0 t0 keeps holds walk g p w m ds next
+      → Retaining call s q f0 t0 keeps holds walk g p w m ds next
       → Steps q f0 t0 keeps holds walk g p w m b es ds next
   stopped q f0 t0 keeps holds f g p w n m b es ds u i walk next e r = (r, rw e (omega (arith, i.count)))
 
   pub retaining-step : {P : Type 0} (q : List ℕ) (f0 : F) (t0 : Trie V) (keeps holds : Bool) (f g : F) (p : List ℕ)
       (w : Option V)
-      (n b : ℕ) (es : List (ℕ × Trie V)) (u x : Trie V) (i : Upcoming call q f0 t0 keeps holds f p w n b es u)
-      (below walk : Retention) (s s' : Kind P V (Trie V)) (next : Option ℕ) → IsCanonical x
-      → KeepsFirst (prefix_of u) (prefix_of x) → RetainsBelow call (q ++ p) below f u x g
-      → storage_capacity s ≡ n → child_entries s ≡ replaced_at b x es → AppliesChild holds b below walk s s'
-      → next ≡ next_byte walk b (child_entries s')
-      → Steps q f0 t0 keeps holds walk g p w (storage_capacity s') b es (child_entries s') next
-  retaining-step q f0 t0 keeps holds f g p w n b es u x i Done Done s s' next c k h v d a e =
-      let ds : child_entries s' ≡ replaced_at b x es = ap child_entries a ∙ d in
-      let changed : child_entries s' ≡ i.left ++ (b, x) ∷ i.rest = ds ∙ ap (replaced_at b x) i.now
+      (n b : ℕ) (es : List (ℕ × Trie V)) (u x : Trie V) (i : Upcoming call s q f0 t0 keeps holds f p w n b es u)
+      (below walk : Retention) (o o' : Kind P V (Trie V)) (next : Option ℕ) → IsCanonical x
+      → KeepsFirst (prefix_of u) (prefix_of x) → RetainsSubtree call s (q ++ p) below f u x g
+      → storage_capacity o ≡ n → child_entries o ≡ replaced_at b x es → AppliesChild holds b below walk o o'
+      → next ≡ next_byte s walk b (child_entries o')
+      → Steps q f0 t0 keeps holds walk g p w (storage_capacity o') b es (child_entries o') next
+  retaining-step q f0 t0 keeps holds f g p w n b es u x i Done Done o o' next c k h v d a e =
+      let ds : child_entries o' ≡ replaced_at b x es = ap child_entries a ∙ d in
+      let changed : child_entries o' ≡ i.left ++ (b, x) ∷ i.rest = ds ∙ ap (replaced_at b x) i.now
       ∙ middle-replaced b 0 u x i.left i.rest i.all in
       let low = middle-other b 0 u x i.left i.rest i.all c k in
-      let first : next ≡ option_map (λ e. e.0) (slice_get i.rest 0) = e
-      ∙ ap (λ r. option_map (λ e. e.0) (slice_get r 0)) (ap (entries_above b) changed
-      ∙ middle-above b 0 x i.left i.rest low) in
-      let joined : child_entries s' ≡ (i.left ++ (b, x) ∷ []) ++ i.rest = changed
+      let ahead : IsAhead s next i.rest = ahead-is s 0 i.rest next (back-canonical 0 (i.left ++ (b, x) ∷ []) i.rest
+      (subst (λ z. AreCanonical 0 (as_children z)) (sym (append_assoc i.left ((b, x) ∷ []) i.rest)) low)) (e
+      ∙ ap (λ r. byte_within s (option_map (λ e. e.0) (slice_get r 0))) (ap (entries_above b) changed
+      ∙ middle-above b 0 x i.left i.rest low)) in
+      let joined : child_entries o' ≡ (i.left ++ (b, x) ∷ []) ++ i.rest = changed
       ∙ sym (append_assoc i.left ((b, x) ∷ []) i.rest) in (
-        stays q f0 t0 keeps holds f g p w n (storage_capacity s') b es (child_entries s') u x i Done h.fates next c k
+        stays q f0 t0 keeps holds f g p w n (storage_capacity o') b es (child_entries o') u x i Done h.fates next c k
             (ap storage_capacity a ∙ v) ds h.calls h.left h.refused h.ends (
               all-visited q f0 t0 keeps holds f p w n b es u i h.fates h.all,
-              first,
+              ahead,
               rest-callable q f0 t0 keeps holds f g p w n b es u i h.fates h.all h.calls,
             ),
         omega (
           arith,
           i.count,
-          ahead-first 0 (i.left ++ (b, x) ∷ []) i.rest (child_entries s') next joined
-              (subst (λ z. AreCanonical 0 (as_children z)) (sym (append_assoc i.left ((b, x) ∷ []) i.rest)) low) first,
+          ahead-few s 0 (i.left ++ (b, x) ∷ []) i.rest (child_entries o') next joined
+              (subst (λ z. AreCanonical 0 (as_children z)) (sym (append_assoc i.left ((b, x) ∷ []) i.rest)) low) ahead,
         ),
       )
-  retaining-step q f0 t0 keeps holds f g p w n b es u x i Done Rejected s s' next c k h v d a e = absurd a
-  retaining-step q f0 t0 keeps holds f g p w n b es u x i Done Refused s s' next c k h v d a e = absurd a
-  retaining-step q f0 t0 keeps holds f g p w n b es u x i Rejected Done s s' next c k h v d a e =
-      let old : child_entries s ≡ i.left ++ (b, x) ∷ i.rest = d ∙ ap (replaced_at b x) i.now
+  retaining-step q f0 t0 keeps holds f g p w n b es u x i Done Rejected o o' next c k h v d a e = absurd a
+  retaining-step q f0 t0 keeps holds f g p w n b es u x i Done Refused o o' next c k h v d a e = absurd a
+  retaining-step q f0 t0 keeps holds f g p w n b es u x i Rejected Done o o' next c k h v d a e =
+      let old : child_entries o ≡ i.left ++ (b, x) ∷ i.rest = d ∙ ap (replaced_at b x) i.now
       ∙ middle-replaced b 0 u x i.left i.rest i.all in
       let low = middle-other b 0 u x i.left i.rest i.all c k in
-      let changed : child_entries s' ≡ i.left ++ i.rest = a.0 ∙ ap (without_byte b) old
+      let changed : child_entries o' ≡ i.left ++ i.rest = a.0 ∙ ap (without_byte b) old
       ∙ middle-without b 0 x i.left i.rest low in
       let removed = middle-removed b 0 x i.left i.rest low in
-      let first : next ≡ option_map (λ e. e.0) (slice_get i.rest 0) = e
-      ∙ ap (λ r. option_map (λ e. e.0) (slice_get r 0)) (ap (entries_above b) changed
-      ∙ middle-after b 0 x i.left i.rest low) in
-      let there : child_at b (child_entries s) ≡ Some x = ap (child_at b) old ∙ middle-at b 0 x i.left i.rest low in
-      let fewer : length es ≡ length (child_entries s') + 1 = omega (
+      let ahead : IsAhead s next i.rest = ahead-is s 0 i.rest next (back-canonical 0 i.left i.rest removed) (e
+      ∙ ap (λ r. byte_within s (option_map (λ e. e.0) (slice_get r 0))) (ap (entries_above b) changed
+      ∙ middle-after b 0 x i.left i.rest low)) in
+      let there : child_at b (child_entries o) ≡ Some x = ap (child_at b) old ∙ middle-at b 0 x i.left i.rest low in
+      let fewer : length es ≡ length (child_entries o') + 1 = omega (
         arith,
         ap length changed,
         ap length i.now,
         length-middle i.left i.rest (b, u),
       ) in
-      let capacity : storage_capacity s' ≡ capacity_of (length (child_entries s')) = a.1
-      ∙ ap (λ o. if is_some o then shrunk_capacity (length (child_entries s')) (storage_capacity s)
-      else storage_capacity s) there
-      ∙ ap (shrunk_capacity (length (child_entries s'))) (v ∙ i.capacity ∙ ap capacity_of fewer)
-      ∙ shrunk-capacity (length (child_entries s')) in (
-        visited q f0 t0 keeps holds f g p w n (storage_capacity s') b es (child_entries s') u i Done []
+      let capacity : storage_capacity o' ≡ capacity_of (length (child_entries o')) = a.1
+      ∙ ap (λ z. if is_some z then shrunk_capacity (length (child_entries o')) (storage_capacity o)
+      else storage_capacity o) there
+      ∙ ap (shrunk_capacity (length (child_entries o'))) (v ∙ i.capacity ∙ ap capacity_of fewer)
+      ∙ shrunk-capacity (length (child_entries o')) in (
+        visited q f0 t0 keeps holds f g p w n (storage_capacity o') b es (child_entries o') u i Done []
             (all_fulfilled h.1.fates) next changed (rw changed removed) capacity
             (λ z. ⊎_elim (λ y. let no : true ≡ false = sym y ∙ i.held ∙ z in absurd (cc))
             (λ y. omega (arith, y, ap length old, ap length changed, length-middle i.left i.rest (b, x))) a.2)
-            (calls-fulfilled call (q ++ p) (pairs_of u) h.1.fates f g h.1.calls)
+            (calls-fulfilled call (is_in_part s) (q ++ p) (pairs_of u) h.1.fates f g h.1.calls)
             (sym (leaf-fulfilled x (pairs_of u) h.1.fates h.0 h.1.all h.1.refused h.1.left))
             (refusals-fulfilled h.1.fates)
             (ends-none (pairs_of u) (all_fulfilled h.1.fates) (refusals-fulfilled h.1.fates)) (
               all-visited q f0 t0 keeps holds f p w n b es u i (all_fulfilled h.1.fates)
                   (length-fulfilled h.1.fates ∙ h.1.all),
-              first,
+              ahead,
               rest-callable q f0 t0 keeps holds f g p w n b es u i h.1.fates h.1.all h.1.calls,
             ),
-        omega (arith, i.count, ahead-first 0 i.left i.rest (child_entries s') next changed removed first),
+        omega (arith, i.count, ahead-few s 0 i.left i.rest (child_entries o') next changed removed ahead),
       )
-  retaining-step q f0 t0 keeps holds f g p w n b es u x i Rejected Rejected s s' next c k h v d a e =
-      let ds : child_entries s' ≡ replaced_at b x es = ap child_entries a.0 ∙ d in
-      let changed : child_entries s ≡ i.left ++ (b, x) ∷ i.rest = d ∙ ap (replaced_at b x) i.now
+  retaining-step q f0 t0 keeps holds f g p w n b es u x i Rejected Rejected o o' next c k h v d a e =
+      let ds : child_entries o' ≡ replaced_at b x es = ap child_entries a.0 ∙ d in
+      let changed : child_entries o ≡ i.left ++ (b, x) ∷ i.rest = d ∙ ap (replaced_at b x) i.now
       ∙ middle-replaced b 0 u x i.left i.rest i.all in
       let few : length i.left + length i.rest ≡ 0 = omega (
         arith,
@@ -333,8 +299,8 @@ module _ {F V : Type 0} (call : Mut F (Bor (List ℕ) × (MutBor V × Unit {0}))
         length-append i.left i.rest,
       ) in
       let front : i.left ≡ [] = no-entries i.left (omega (arith, few)) in
-      stopped q f0 t0 keeps holds f g p w n (storage_capacity s') b es (child_entries s') u i Rejected next e
-      (stays q f0 t0 keeps holds f g p w n (storage_capacity s') b es (child_entries s') u x i Rejected h.1.fates next
+      stopped q f0 t0 keeps holds f g p w n (storage_capacity o') b es (child_entries o') u i Rejected next e
+      (stays q f0 t0 keeps holds f g p w n (storage_capacity o') b es (child_entries o') u x i Rejected h.1.fates next
       c k (ap storage_capacity a.0 ∙ v) ds h.1.calls h.1.left h.1.refused h.1.ends (
         all-visited q f0 t0 keeps holds f p w n b es u i h.1.fates h.1.all,
         e,
@@ -342,14 +308,14 @@ module _ {F V : Type 0} (call : Mut F (Bor (List ℕ) × (MutBor V × Unit {0}))
         no-value w (sym a.1 ∙ i.held),
         record { byte = b; leaf = x; one = ap (λ z. z ++ (b, x) ∷ []) front; childless = h.0 },
       ))
-  retaining-step q f0 t0 keeps holds f g p w n b es u x i Rejected Refused s s' next c k h v d a e =
-      let old : child_entries s ≡ i.left ++ (b, x) ∷ i.rest = d ∙ ap (replaced_at b x) i.now
+  retaining-step q f0 t0 keeps holds f g p w n b es u x i Rejected Refused o o' next c k h v d a e =
+      let old : child_entries o ≡ i.left ++ (b, x) ∷ i.rest = d ∙ ap (replaced_at b x) i.now
       ∙ middle-replaced b 0 u x i.left i.rest i.all in
-      let all : child_entries s ≡ (i.left ++ (b, x) ∷ []) ++ i.rest = old
+      let all : child_entries o ≡ (i.left ++ (b, x) ∷ []) ++ i.rest = old
       ∙ sym (append_assoc i.left ((b, x) ∷ []) i.rest) in
       let low = middle-other b 0 u x i.left i.rest i.all c k in
-      stopped q f0 t0 keeps holds f g p w n (storage_capacity s') b es (child_entries s') u i Refused next e
-      (stays q f0 t0 keeps holds f g p w n (storage_capacity s') b es (child_entries s') u x i Refused h.1.fates next
+      stopped q f0 t0 keeps holds f g p w n (storage_capacity o') b es (child_entries o') u i Refused next e
+      (stays q f0 t0 keeps holds f g p w n (storage_capacity o') b es (child_entries o') u x i Refused h.1.fates next
       c k (ap storage_capacity a.0 ∙ v) (ap child_entries a.0 ∙ d) h.1.calls h.1.left h.1.refused h.1.ends (
         e,
         record {
@@ -367,16 +333,16 @@ module _ {F V : Type 0} (call : Mut F (Bor (List ℕ) × (MutBor V × Unit {0}))
           );
         },
       ))
-  retaining-step q f0 t0 keeps holds f g p w n b es u x i Refused Done s s' next c k h v d a e = absurd a
-  retaining-step q f0 t0 keeps holds f g p w n b es u x i Refused Rejected s s' next c k h v d a e = absurd a
-  retaining-step q f0 t0 keeps holds f g p w n b es u x i Refused Refused s s' next c k h v d a e =
-      let old : child_entries s ≡ i.left ++ (b, x) ∷ i.rest = d ∙ ap (replaced_at b x) i.now
+  retaining-step q f0 t0 keeps holds f g p w n b es u x i Refused Done o o' next c k h v d a e = absurd a
+  retaining-step q f0 t0 keeps holds f g p w n b es u x i Refused Rejected o o' next c k h v d a e = absurd a
+  retaining-step q f0 t0 keeps holds f g p w n b es u x i Refused Refused o o' next c k h v d a e =
+      let old : child_entries o ≡ i.left ++ (b, x) ∷ i.rest = d ∙ ap (replaced_at b x) i.now
       ∙ middle-replaced b 0 u x i.left i.rest i.all in
-      let all : child_entries s ≡ (i.left ++ (b, x) ∷ []) ++ i.rest = old
+      let all : child_entries o ≡ (i.left ++ (b, x) ∷ []) ++ i.rest = old
       ∙ sym (append_assoc i.left ((b, x) ∷ []) i.rest) in
       let low = middle-other b 0 u x i.left i.rest i.all c k in
-      stopped q f0 t0 keeps holds f g p w n (storage_capacity s') b es (child_entries s') u i Refused next e
-      (stays q f0 t0 keeps holds f g p w n (storage_capacity s') b es (child_entries s') u x i Refused h.retains.fates
+      stopped q f0 t0 keeps holds f g p w n (storage_capacity o') b es (child_entries o') u i Refused next e
+      (stays q f0 t0 keeps holds f g p w n (storage_capacity o') b es (child_entries o') u x i Refused h.retains.fates
       next c k (ap storage_capacity a ∙ v) (ap child_entries a ∙ d) h.retains.calls h.retains.left h.retains.refused
       h.retains.ends (
         e,

@@ -8,7 +8,9 @@ use Rattle.std.proofs.lemmas.List.{append_assoc}
 use Rattle.rart_keys.specs.SortedMap.{longest_key}
 use Rattle.rart_trie.specs.edits.Retentions.{CalledForPair, CallsFor, Fate, kept, removed, refused, is_wanted, is_left}
 use Rattle.rart_trie.specs.edits.Retentions.{refusal, key_refused, refusals, refused_key, remaining_pairs}
+use Rattle.rart_trie.specs.edits.RetainSteps.{CallsIf, CallsWhere}
 use Rattle.rart_trie.specs.tries.Trie.{with_prefix}
+use Rattle.rart_trie.proofs.changes.ValueChangeLemmas.{Agree, pairs_where}
 use Rattle.rart_trie.proofs.edits.CallbackLemmas.{always-on}
 
 -- the removals that were put off are made
@@ -61,7 +63,7 @@ module _ {V : Type 0} where
         | false ↦ more
       ]
 
-  remaining-none : (es : List (List ℕ × V)) → remaining_pairs es [] ≡ es
+  pub remaining-none : (es : List (List ℕ × V)) → remaining_pairs es [] ≡ es
   remaining-none [] = refl
   remaining-none (e ∷ es) = refl
 
@@ -147,7 +149,7 @@ module _ {V : Type 0} where
       = key-later x.1 e.0 (refusals xs) (refused_key (es ++ ds) (xs ++ ys)) r
       ∙ refused_key-append es ds xs ys (omega (arith, h)) (no-more x.1 (refusals xs) r)
 
-  refused_key-none : (es : List (List ℕ × V)) → refused_key es [] ≡ None
+  pub refused_key-none : (es : List (List ℕ × V)) → refused_key es [] ≡ None
   refused_key-none [] = refl
   refused_key-none (e ∷ es) = refl
 
@@ -183,58 +185,110 @@ module _ {V : Type 0} where
       (refused_key es xs) (λ a b. refused_key-only es xs k v (omega (arith, l)) b a)
       (omega (arith, remaining-fulfilled es xs (omega (arith, l)))) r h
 
+  -- the fates of pairs that were passed
+  abbrev pub passed : List (List ℕ × V) → List (V × Fate)
+  passed es = map (λ e. (e.1, kept)) es
+
+  pub length-passed : (es : List (List ℕ × V)) → length (passed es) ≡ length es
+  length-passed [] = refl
+  length-passed (e ∷ es) = omega (arith, length-passed es)
+
+  pub refusals-passed : (es : List (List ℕ × V)) → refusals (passed es) ≡ 0
+  refusals-passed [] = refl
+  refusals-passed (e ∷ es) = omega (arith, refusals-passed es)
+
+  pub remaining-passed : (es : List (List ℕ × V)) → remaining_pairs es (passed es) ≡ es
+  remaining-passed [] = refl
+  remaining-passed (e ∷ es) = ap (λ z. e ∷ z) (remaining-passed es)
+
 module _ {F V : Type 0} (call : Mut F (Bor (List ℕ) × (MutBor V × Unit {0})) (Bool × (MutBor V × Unit {0}))) where
-  -- one list after another
-  pub calls-append : (q : List ℕ) (es ds : List (List ℕ × V)) (xs ys : List (V × Fate)) (f g h : F)
-      → length xs ≡ length es → CallsFor call q f es xs g → CallsFor call q g ds ys h
-      → CallsFor call q f (es ++ ds) (xs ++ ys) h
-  calls-append q [] ds [] ys f g h l i j = subst (λ z. CallsFor call q z ds ys h) (sym i) j
-  calls-append q [] ds (x ∷ xs) ys f g h l i j = absurd i
-  calls-append q (e ∷ es) ds [] ys f g h l i j = absurd (omega (arith, l))
-  calls-append q (e ∷ es) ds (x ∷ xs) ys f g h l i j
-      = (i.0, (i.1.0, calls-append q es ds xs ys i.0 g h (omega (arith, l)) i.1.1 j))
+  -- a call whose removal is made
+  if-fulfilled : (h : Bool) (f : F) (e : List ℕ × V) (x : V × Fate) (g : F) → CallsIf call h f e x g
+      → CallsIf call h f e (x.0, fulfilled x.1) g
+  if-fulfilled true f e x g i = rw (wanted-fulfilled x.1) i
+  if-fulfilled false f e x g i = (rw i.0 refl, i.1)
 
-  pub calls-front : (q : List ℕ) (es ds : List (List ℕ × V)) (xs : List (V × Fate)) (f g : F)
-      → CallsFor call q f es xs g → CallsFor call q f (es ++ ds) xs g
-  calls-front q [] ds [] f g i = i
-  calls-front q [] ds (x ∷ xs) f g i = absurd i
-  calls-front q (e ∷ es) ds [] f g i = i
-  calls-front q (e ∷ es) ds (x ∷ xs) f g i = (i.0, (i.1.0, calls-front q es ds xs i.0 g i.1.1))
+  -- by a test that agrees
+  pub calls-agree : (t r : List ℕ → Bool) (q : List ℕ) (es : List (List ℕ × V)) (xs : List (V × Fate)) (f g : F)
+      → Agree t r es → CallsWhere call r q f es xs g → CallsWhere call t q f es xs g
+  calls-agree t r q [] [] f g a i = i
+  calls-agree t r q [] (x ∷ xs) f g a i = absurd i
+  calls-agree t r q (e ∷ es) [] f g a i = i
+  calls-agree t r q (e ∷ es) (x ∷ xs) f g a i
+      = (i.0, (rw a.0 i.1.0, calls-agree t r q es xs i.0 g a.1 i.1.1))
 
-  -- there is a pair for each call
-  pub calls-length : (q : List ℕ) (es : List (List ℕ × V)) (xs : List (V × Fate)) (f g : F) → CallsFor call q f es xs g
-      → length xs ≤ length es
-  calls-length q es [] f g i = omega arith
-  calls-length q [] (x ∷ xs) f g i = absurd i
-  calls-length q (e ∷ es) (x ∷ xs) f g i = omega (arith, calls-length q es xs i.0 g i.1.1)
+  -- after a longer path, where t holds of just the keys of which r holds after it
+  pub calls-after : (t r : List ℕ → Bool) (q p : List ℕ) (es : List (List ℕ × V)) (xs : List (V × Fate)) (f g : F)
+      → ((k : List ℕ) → t (p ++ k) ≡ r k) → CallsWhere call r (q ++ p) f es xs g
+      → CallsWhere call t q f (with_prefix p es) xs g
+  calls-after t r q p [] [] f g a i = i
+  calls-after t r q p [] (x ∷ xs) f g a i = absurd i
+  calls-after t r q p (e ∷ es) [] f g a i = i
+  calls-after t r q p (e ∷ es) (x ∷ xs) f g a i
+      = (i.0, (rw (a e.0, ← append_assoc q p e.0) i.1.0, calls-after t r q p es xs i.0 g a i.1.1))
 
-  -- after a longer path
-  pub calls-after : (q p : List ℕ) (es : List (List ℕ × V)) (xs : List (V × Fate)) (f g : F)
-      → CallsFor call (q ++ p) f es xs g → CallsFor call q f (with_prefix p es) xs g
-  calls-after q p [] [] f g i = i
-  calls-after q p [] (x ∷ xs) f g i = absurd i
-  calls-after q p (e ∷ es) [] f g i = i
-  calls-after q p (e ∷ es) (x ∷ xs) f g i
-      = (i.0, (rw (← append_assoc q p e.0) i.1.0, calls-after q p es xs i.0 g i.1.1))
+  module _ (t : List ℕ → Bool) where
+    -- one list after another
+    pub calls-append : (q : List ℕ) (es ds : List (List ℕ × V)) (xs ys : List (V × Fate)) (f g h : F)
+        → length xs ≡ length es → CallsWhere call t q f es xs g → CallsWhere call t q g ds ys h
+        → CallsWhere call t q f (es ++ ds) (xs ++ ys) h
+    calls-append q [] ds [] ys f g h l i j = subst (λ z. CallsWhere call t q z ds ys h) (sym i) j
+    calls-append q [] ds (x ∷ xs) ys f g h l i j = absurd i
+    calls-append q (e ∷ es) ds [] ys f g h l i j = absurd (omega (arith, l))
+    calls-append q (e ∷ es) ds (x ∷ xs) ys f g h l i j
+        = (i.0, (i.1.0, calls-append q es ds xs ys i.0 g h (omega (arith, l)) i.1.1 j))
 
-  pub calls-fulfilled : (q : List ℕ) (es : List (List ℕ × V)) (xs : List (V × Fate)) (f g : F)
-      → CallsFor call q f es xs g → CallsFor call q f es (all_fulfilled xs) g
-  calls-fulfilled q [] [] f g i = i
-  calls-fulfilled q [] (x ∷ xs) f g i = absurd i
-  calls-fulfilled q (e ∷ es) [] f g i = i
-  calls-fulfilled q (e ∷ es) (x ∷ xs) f g i
-      = (i.0, (rw (wanted-fulfilled x.1) i.1.0, calls-fulfilled q es xs i.0 g i.1.1))
+    pub calls-front : (q : List ℕ) (es ds : List (List ℕ × V)) (xs : List (V × Fate)) (f g : F)
+        → CallsWhere call t q f es xs g → CallsWhere call t q f (es ++ ds) xs g
+    calls-front q [] ds [] f g i = i
+    calls-front q [] ds (x ∷ xs) f g i = absurd i
+    calls-front q (e ∷ es) ds [] f g i = i
+    calls-front q (e ∷ es) ds (x ∷ xs) f g i = (i.0, (i.1.0, calls-front q es ds xs i.0 g i.1.1))
 
-  -- they are calls at each pair in turn
-  pub calls-folds : (q : List ℕ) (es : List (List ℕ × V)) (xs : List (V × Fate)) (f g : F) → length xs ≡ length es
-      → CallsFor call q f es xs g → FoldsTo (λ p e r. CalledForPair call p e r) f (with_prefix q es) g
-  calls-folds q [] [] f g l i = i
-  calls-folds q [] (x ∷ xs) f g l i = absurd i
-  calls-folds q (e ∷ es) [] f g l i = absurd (omega (arith, l))
-  calls-folds q (e ∷ es) (x ∷ xs) f g l i
-      = (i.0, (is_wanted x.1, (x.0, i.1.0)), calls-folds q es xs i.0 g (omega (arith, l)) i.1.1)
+    -- there is a pair for each fate
+    pub calls-length : (q : List ℕ) (es : List (List ℕ × V)) (xs : List (V × Fate)) (f g : F)
+        → CallsWhere call t q f es xs g → length xs ≤ length es
+    calls-length q es [] f g i = omega arith
+    calls-length q [] (x ∷ xs) f g i = absurd i
+    calls-length q (e ∷ es) (x ∷ xs) f g i = omega (arith, calls-length q es xs i.0 g i.1.1)
 
-  -- and f may always be called after them
+    pub calls-fulfilled : (q : List ℕ) (es : List (List ℕ × V)) (xs : List (V × Fate)) (f g : F)
+        → CallsWhere call t q f es xs g → CallsWhere call t q f es (all_fulfilled xs) g
+    calls-fulfilled q [] [] f g i = i
+    calls-fulfilled q [] (x ∷ xs) f g i = absurd i
+    calls-fulfilled q (e ∷ es) [] f g i = i
+    calls-fulfilled q (e ∷ es) (x ∷ xs) f g i
+        = (i.0, (if-fulfilled (t e.0) f (q ++ e.0, e.1) x i.0 i.1.0, calls-fulfilled q es xs i.0 g i.1.1))
+
+    -- pairs of none of whose keys t holds are passed
+    pub calls-passed : (q : List ℕ) (es : List (List ℕ × V)) (f : F) → pairs_where t es ≡ []
+        → CallsWhere call t q f es (passed es) f
+    calls-passed q [] f n = refl
+    calls-passed q (e ∷ es) f n = (
+      f,
+      elim (t e.0) as (λ z. (if z then e ∷ pairs_where t es else pairs_where t es) ≡ []
+          → CallsIf call z f (q ++ e.0, e.1) (e.1, kept) f × CallsWhere call t q f es (passed es) f) [
+            | true ↦ λ n. absurd (cc)
+            | false ↦ λ n. ((refl, refl), calls-passed q es f n)
+          ] n,
+    )
+
+    -- the calls are those at each pair of whose key t holds, in turn
+    pub calls-folds : (q : List ℕ) (es : List (List ℕ × V)) (xs : List (V × Fate)) (f g : F) → length xs ≡ length es
+        → CallsWhere call t q f es xs g
+        → FoldsTo (λ p e r. CalledForPair call p e r) f (with_prefix q (pairs_where t es)) g
+    calls-folds q [] [] f g l i = i
+    calls-folds q [] (x ∷ xs) f g l i = absurd i
+    calls-folds q (e ∷ es) [] f g l i = absurd (omega (arith, l))
+    calls-folds q (e ∷ es) (x ∷ xs) f g l i = elim (t e.0) as (λ z. CallsIf call z f (q ++ e.0, e.1) x i.0
+        → FoldsTo (λ p e r. CalledForPair call p e r) f
+        (with_prefix q (if z then e ∷ pairs_where t es else pairs_where t es)) g) [
+          | true ↦ λ c. (i.0, (is_wanted x.1, (x.0, c)), calls-folds q es xs i.0 g (omega (arith, l)) i.1.1)
+          | false ↦ λ c. subst (λ z. FoldsTo (λ p e r. CalledForPair call p e r) z (with_prefix q (pairs_where t es)) g)
+              (sym c.1) (calls-folds q es xs i.0 g (omega (arith, l)) i.1.1)
+        ] i.1.0
+
+  -- after calls f may always be called
   pub always-after-calls : (q : List ℕ) (es : List (List ℕ × V)) (xs : List (V × Fate)) (f g : F)
       → CallsFor call q f es xs g → always_mut call f → always_mut call g
   always-after-calls q es [] f g i a = subst (always_mut call) i a

@@ -102,7 +102,7 @@ module _ {V : Type 0} where
       → node_count t ≤ n
   dropping-fewer n b t es i s = omega (arith, i.few, count-at b t es s)
 
-  pub record Dropped (n b : ℕ) (es : List (ℕ × Trie V)) (next : Option ℕ) : Type 0 where
+  record Dropped (n b : ℕ) (es : List (ℕ × Trie V)) (next : Option ℕ) : Type 0 where
     pub walk : Dropping n es next
     pub ahead : ahead_count next es ≤ length (entries_above b es)
 

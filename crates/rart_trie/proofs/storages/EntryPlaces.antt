@@ -14,7 +14,7 @@ use Rattle.rart_trie.specs.tries.TrieCode.{as_children, child_count, node_count}
 use Rattle.rart_trie.proofs.storages.ChildLemmas.{at_first, after_first, found, lt-no, lt-yes}
 use Rattle.rart_trie.proofs.tries.FirstBytes.{AllFirst, AllFrom, IsFrom}
 
-begins-first : (b c : ℕ) (r k : List ℕ) → (c ≡ b → ⊥) → StartsWith c k → begins (b ∷ r) k ≡ false
+pub begins-first : (b c : ℕ) (r k : List ℕ) → (c ≡ b → ⊥) → StartsWith c k → begins (b ∷ r) k ≡ false
 begins-first b c r [] n h = absurd h
 begins-first b c r (x ∷ k) n h = rw (eq-no b x (λ q. n (sym h ∙ sym q))) refl
 
@@ -90,11 +90,22 @@ module _ {V : Type 0} where
   middle-low b low u [] ys w = w.0
   middle-low b low u (x ∷ xs) ys w = omega (arith, w.0, middle-low b (suc x.0) u xs ys w.3)
 
+  pub lower-canonical : (low high : ℕ) (ys : List (ℕ × Trie V)) → low ≤ high → AreCanonical high (as_children ys)
+      → AreCanonical low (as_children ys)
+  lower-canonical low high [] l c = tt
+  lower-canonical low high (y ∷ ys) l c = (omega (arith, l, c.0), c.1, c.2, c.3)
+
   -- those from it on
   pub tail-canonical : (e : ℕ × Trie V) (low : ℕ) (xs ys : List (ℕ × Trie V))
       → AreCanonical low (as_children (xs ++ e ∷ ys)) → AreCanonical e.0 (as_children (e ∷ ys))
   tail-canonical e low [] ys w = (omega arith, w.1, w.2, w.3)
   tail-canonical e low (x ∷ xs) ys w = tail-canonical e (suc x.0) xs ys w.3
+
+  pub back-canonical : (low : ℕ) (xs ys : List (ℕ × Trie V)) → AreCanonical low (as_children (xs ++ ys))
+      → AreCanonical low (as_children ys)
+  back-canonical low [] ys w = w
+  back-canonical low (x ∷ xs) ys w = lower-canonical low (suc x.0) ys (omega (arith, w.0))
+      (back-canonical (suc x.0) xs ys w.3)
 
   pub middle-at : (b low : ℕ) (u : Trie V) (xs ys : List (ℕ × Trie V))
       → AreCanonical low (as_children (xs ++ (b, u) ∷ ys)) → child_at b (xs ++ (b, u) ∷ ys) ≡ Some u

@@ -1,9 +1,12 @@
 -- Calls of a callback that says which pairs stay, and what they leave of a list of pairs.
-use Rattle.std.specs.Prelude.{ℕ, ◌≡◌, ◌+◌, Bool, true, false, List, [], ◌∷◌, ◌++◌, length, Result, Ok, Err}
+use Rattle.std.specs.Prelude.{ℕ, ◌≡◌, ◌+◌, ◌&&◌, Bool, true, false, not, List, [], ◌∷◌, ◌++◌, length, Result, Ok, Err}
 use Rattle.std.specs.Prelude.{if◌then◌else◌, Option, Some, None}
 use Rattle.std.specs.Borrow.{Bor, MutBor}
 use Rattle.std.specs.Fn.{Called, Mut, Takes}
+use Rattle.std.specs.List.{filter}
+use Rattle.std.specs.declared.ops.Bound.{Bound}
 use Rattle.rart_keys.specs.ByteStrings.{begins}
+use Rattle.rart_keys.specs.Ranges.{is_from, is_to}
 use Rattle.rart_keys.specs.SortedMap.{keys_of}
 use Rattle.rart_trie.specs.edits.RemoveAllocations.{remove_allocates}
 use Rattle.rart_trie.specs.walks.Calls.{CallableAtEach}
@@ -120,6 +123,36 @@ module _ {F V : Type 0} (call : Mut F (Bor (List ℕ) × (MutBor V × Unit {0}))
   Retains f es (Ok u) ds f' = RetainsAll [] f es ds 0 f'
   Retains f es (Err e) ds f' = (k : List ℕ) × (RetainsFirst [] f es ds k f' × (remove_allocates (keys_of ds) k ≡ true))
 
+  -- `Retains` of the pairs of whose key t holds; the others are unchanged, and f was not called with them
+  abbrev pub RetainsWhere : {E : Type 0} → (List ℕ → Bool) → F → List (List ℕ × V) → Result (Unit {0}) E
+      → List (List ℕ × V) → F → Type 0
+  RetainsWhere t f es (Ok u) ds f' = RetainsAll [] f (filter (λ e. t e.0) es) (filter (λ e. t e.0) ds) 0 f'
+      × (filter (λ e. not (t e.0)) ds ≡ filter (λ e. not (t e.0)) es)
+  RetainsWhere t f es (Err e) ds f' = (k : List ℕ)
+      × (RetainsFirst [] f (filter (λ e. t e.0) es) (filter (λ e. t e.0) ds) k f'
+      × (remove_allocates (keys_of ds) k ≡ true)
+      × (filter (λ e. not (t e.0)) ds ≡ filter (λ e. not (t e.0)) es))
+
+  -- of the pairs whose key p begins
+  abbrev pub RetainsBelow : {E : Type 0} → List ℕ → F → List (List ℕ × V) → Result (Unit {0}) E → List (List ℕ × V) → F
+      → Type 0
+  RetainsBelow p f es r ds f' = RetainsWhere (λ k. begins p k) f es r ds f'
+
+  -- of the pairs whose key is within two bounds
+  abbrev pub RetainsBetween : {E : Type 0} → Bound (List ℕ) → Bound (List ℕ) → F → List (List ℕ × V)
+      → Result (Unit {0}) E → List (List ℕ × V) → F → Type 0
+  RetainsBetween a b f es r ds f' = RetainsWhere (λ k. is_from a k && is_to b k) f es r ds f'
+
   -- `Retains` for an f taken by value
   abbrev pub RetainsByValue : {E : Type 0} → F → List (List ℕ × V) → Result (Unit {0}) E → List (List ℕ × V) → Type 0
   RetainsByValue f es r ds = (last : F) × Retains f es r ds last
+
+  -- `RetainsBelow` for an f taken by value
+  abbrev pub RetainsBelowByValue : {E : Type 0} → List ℕ → F → List (List ℕ × V) → Result (Unit {0}) E
+      → List (List ℕ × V) → Type 0
+  RetainsBelowByValue p f es r ds = (last : F) × RetainsBelow p f es r ds last
+
+  -- `RetainsBetween` for an f taken by value
+  abbrev pub RetainsBetweenByValue : {E : Type 0} → Bound (List ℕ) → Bound (List ℕ) → F → List (List ℕ × V)
+      → Result (Unit {0}) E → List (List ℕ × V) → Type 0
+  RetainsBetweenByValue a b f es r ds = (last : F) × RetainsBetween a b f es r ds last

@@ -1,4 +1,4 @@
-//! Bounds of keys, cut on the way down to a node: what is left of a bound after a prefix, and at a child.
+//! Bounds of keys, cut on the way down to a node: the rest of a bound after a prefix, and at a child.
 
 // At a node on the path to a bound, a walk continues with the bound's bytes after the node's prefix, or without a bound
 // if all keys of the node are within it. So no byte of the path is kept.

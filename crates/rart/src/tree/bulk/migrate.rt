@@ -1,19 +1,20 @@
 //! Trees of text keys that end in a zero byte, migrated to keys without it.
-ghost use Rattle.std.specs.Prelude.{◌≡◌, ◌≢◌, ◌≤◌, ℕ, List, length, map, IfErr, IfNone, IfOk, IfSome};
+ghost use Rattle.std.specs.Prelude.{◌≡◌, ◌≢◌, ℕ, List, [], IfErr, IfNone, IfOk, IfSome, OnErr, OnOk};
 ghost use Rattle.rart_keys.specs.ArrayKeyBytes.{array_key_bytes};
-ghost use Rattle.rart_keys.specs.SortedMap.{keys_of, values_of};
+ghost use Rattle.rart_keys.specs.SortedMap.{keys_of};
 ghost use Rattle.rart_trie.specs.shapes.Shape.{HasShape};
-ghost use Rattle.rart.specs.Migrations.{FailsMigration, terminated_key, with_zeros};
+ghost use Rattle.rart.specs.Migrations.{AreTerminated, FailsMigration, terminated_key, with_zeros};
 
 use crate::migrate::MigrateError;
-use crate::tree::{AdaptiveRadixTree, MAX_PAIRS};
+use crate::tree::AdaptiveRadixTree;
+use crate::tree::bulk::loader::Loader;
 use rart_keys::laws::key_order::closing_zeros;
 use rart_keys::{ArrayKey, KeyTrait};
 
 impl<const N: usize, V: Copy> AdaptiveRadixTree<ArrayKey<N>, V> {
     /// Builds the tree of `old`'s pairs, each key without its closing zero byte, with `old`'s allocator.
     ///
-    /// One walk reads all keys. It allocates before the first.
+    /// A first walk tests all keys, and a second one reads them. Each allocates before the first key.
     ///
     /// # Errors
     ///
@@ -26,41 +27,60 @@ impl<const N: usize, V: Copy> AdaptiveRadixTree<ArrayKey<N>, V> {
     {
         old.canonical();
         closing_zeros();
-        let (keys, values) = read_texts(old)?;
-        let Ok(tree) = AdaptiveRadixTree::of_keys_and_values(old.alloc, &keys, values) else {
+        test_texts(old)?;
+        let loader = read_texts(old)?;
+        let Ok(tree) = loader.into_tree() else {
             return Err(MigrateError::Memory);
         };
         Ok(tree)
     }
 }
 
-/// Returns the keys of a tree, each without its closing zero, and their values. Allocates before the first is read.
-fn read_texts<const N: usize, V: Copy>(
+/// Tests that each key of a tree ends in a zero byte. Allocates before the first is read.
+fn test_texts<const N: usize, V: Copy>(
     old: &AdaptiveRadixTree<ArrayKey<N>, V>,
-) -> Result<(Vec<ArrayKey<N>>, Vec<V>), MigrateError>
-    ensures keys { IfOk result
-        (λ r. keys_of old.now.pairs ≡ map terminated_key (map array_key_bytes r.0.items)) }
-    ensures values { IfOk result (λ r. values_of old.now.pairs ≡ r.1.items) }
-    ensures at_most { IfOk result (λ r. length r.0.items ≤ MAX_PAIRS) }
+) -> Result<(), MigrateError>
+    ensures texts { OnOk result (AreTerminated (keys_of old.now.pairs)) }
     ensures refused { IfErr result (FailsMigration old.now.pairs) }
 {
-    let Ok(mut keys) = Vec::with_capacity(old.alloc, old.len()) else {
+    let Ok(mut rest) = old.iter() else {
         return Err(MigrateError::Memory);
     };
-    let Ok(mut values) = Vec::with_capacity(old.alloc, old.len()) else {
-        return Err(MigrateError::Memory);
-    };
+    for at in 0..old.len() {
+        let Some((key, _)) = rest.next() else {
+            unreachable!()
+        };
+        let Some(_text) = without_zero(&key) else {
+            return Err(MigrateError::NotText { at });
+        };
+    }
+    Ok(())
+}
+
+/// Returns the pairs of a tree, each key without its closing zero. Allocates before the first is read.
+fn read_texts<const N: usize, V: Copy>(
+    old: &AdaptiveRadixTree<ArrayKey<N>, V>,
+) -> Result<Loader<ArrayKey<N>, V>, MigrateError>
+    requires { AreTerminated (keys_of old.now.pairs) }
+    ensures pairs { IfOk result (λ m. old.now.pairs ≡ with_zeros m) }
+    ensures memory { IfErr result (λ e. e ≡ MigrateError.Memory) }
+    ensures allocates { OnErr result (old.now.pairs ≢ []) }
+{
+    old.canonical();
+    closing_zeros();
+    let mut loader = Loader::new(old.alloc);
     let Ok(mut rest) = old.iter() else {
         return Err(MigrateError::Memory);
     };
     while let Some((key, value)) = rest.next() {
         let Some(text) = without_zero(&key) else {
-            return Err(MigrateError::NotText { at: keys.len() });
+            unreachable!()
         };
-        keys.push_reserved(text);
-        values.push_reserved(*value);
+        let Ok(()) = loader.append(text, *value) else {
+            return Err(MigrateError::Memory);
+        };
     }
-    Ok((keys, values))
+    Ok(loader)
 }
 
 /// Returns the key without its closing zero byte, `None` if it has none.

@@ -49,8 +49,8 @@ impl<'a, K: KeyTrait, V, C: Count> Seen<'a, K, V, C> {
     }
 
     /// Calls `f` once with a view of the longest key that begins the bytes `probe`, which may be longer than any key,
-    /// cut at the branch points, and with its value. Returns whether there is such a key. `f` must be callable with that
-    /// key. The caller keeps `f`.
+    /// cut at the branch points, and with its value. Returns whether there is such a key. `f` must be callable with
+    /// that key. The caller keeps `f`.
     ///
     /// # Errors
     ///

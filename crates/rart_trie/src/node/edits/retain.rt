@@ -1,25 +1,32 @@
-//! Removal of all pairs that a callback rejects, in one walk.
+//! Removal of the pairs of a part that a callback rejects, in one walk.
 
 // It descends by recursion, and each level holds neither a key nor a node.
 
 ghost use Rattle.std.specs.Prelude.{◌≡◌, ◌+◌, ◌≤◌, [], true, length, take, None, Some, IfErr};
 ghost use Rattle.rart_parts.specs.Errors.{IsMemory};
+ghost use Rattle.rart_keys.specs.Filters.{below};
 ghost use Rattle.rart_keys.specs.KeyBytes.{IsWithin};
+ghost use Rattle.rart_keys.specs.Ranges.{between};
 ghost use Rattle.rart_keys.specs.SortedMap.{longest_key};
 ghost use Rattle.rart_trie.specs.edits.Deletion.{JoinsWithin, needs_merge};
-ghost use Rattle.rart_trie.specs.edits.RetainSteps.{AppliesChild, CallsForOwn, KeepsFirst, RetainsBelow, next_byte};
+ghost use Rattle.rart_trie.specs.edits.RetainSteps.{AppliesChild, CallsForOwn, KeepsFirst, RetainsSubtree, next_byte};
 ghost use Rattle.rart_trie.specs.edits.RetainSteps.{RetainsTree, finished_as, finished_node};
-ghost use Rattle.rart_trie.specs.edits.Retentions.{CanRetain, Retains, TakesPair};
+ghost use Rattle.rart_trie.specs.edits.Retentions.{CanRetain, Retains, RetainsBelow, RetainsBetween, RetainsWhere};
+ghost use Rattle.rart_trie.specs.edits.Retentions.{TakesPair};
+ghost use Rattle.rart_trie.specs.ranges.LentBounds.{lent_bound};
+ghost use Rattle.rart_trie.specs.ranges.Parts.{is_in_part, pairs_in};
 ghost use Rattle.rart_trie.specs.storages.Stored.{HoldsSo, child_entries, stored_value};
 ghost use Rattle.rart_trie.specs.tries.Tree.{IsCanonicalTree, tree_pairs};
 ghost use Rattle.rart_trie.specs.tries.Trie.{IsCanonical, capacity_in, children_in, pairs_of, prefix_of, with_prefix};
 
 use crate::node::DefaultNode;
 use crate::node::edits::pop::extend;
+use crate::node::part::Part;
 use crate::node::storage::Storage;
 use rart_keys::Partial;
 use rart_parts::TreeError;
 use std::alloc::Global;
+use std::ops::Bound;
 
 /// What a walk leaves of a node.
 #[derive(Clone, Copy)]
@@ -32,18 +39,23 @@ pub(crate) enum Retention {
     Refused,
 }
 
-/// Calls `f` with the key and the value of a node, if it has one, and returns whether the value is to be kept.
+/// Calls `f` with the key and the value of a node, if it has one and the part has its key, the empty key after the
+/// node's prefix. Returns whether the value is to be kept.
 fn call_for_own<P: Partial, V, F: FnMut(&[u8], &mut V) -> bool>(
     storage: &mut Storage<P, V, DefaultNode<P, V>>,
+    part: Part<'_>,
     key: &[u8],
     f: &mut F,
 ) -> bool
-    requires callable { (v : V) → stored_value storage.old ≡ Some v
+    requires callable { (v : V) → stored_value storage.old ≡ Some v → is_in_part part [] ≡ true
         → TakesPair F.FnMut f.old (key.now, v) }
-    ensures calls { CallsForOwn F.FnMut key.now f.old (stored_value storage.old) result
-        (stored_value storage.new) f.new }
+    ensures calls { CallsForOwn F.FnMut (is_in_part part.entry []) key.now f.old
+        (stored_value storage.old) result (stored_value storage.new) f.new }
     ensures same { HoldsSo storage.old (stored_value storage.new) storage.new }
 {
+    if !part.holds_empty() {
+        return true;
+    }
     match storage.value_mut() {
         Some(value) => f(key, value),
         None => true,
@@ -87,16 +99,17 @@ fn apply_to_child<P: Partial, V: Drop>(
     }
 }
 
-/// Returns the byte of the next child after `byte`, or `None` if the walk is over.
+/// Returns the byte of the next child after `byte` that may have keys of the part, or `None` if the walk is over.
 fn following_byte<P: Partial, V>(
     storage: &Storage<P, V, DefaultNode<P, V>>,
+    part: Part<'_>,
     byte: u8,
     walk: Retention,
 ) -> Option<u8>
-    ensures { result ≡ next_byte walk byte (child_entries storage.now) }
+    ensures { result ≡ next_byte part.entry walk byte (child_entries storage.now) }
 {
     match walk {
-        Retention::Done => storage.byte_above(byte),
+        Retention::Done => part.byte_above(storage, byte),
         Retention::Rejected | Retention::Refused => None,
     }
 }
@@ -123,9 +136,10 @@ impl<P: Partial, V: Drop> DefaultNode<P, V> {
         walk
     }
 
-    fn retain_below<F: FnMut(&[u8], &mut V) -> bool>(
+    fn retain_part<F: FnMut(&[u8], &mut V) -> bool>(
         &mut self,
         alloc: Global,
+        part: Part<'_>,
         path: &mut P,
         f: &mut F,
     ) -> Retention
@@ -133,26 +147,27 @@ impl<P: Partial, V: Drop> DefaultNode<P, V> {
         requires within { IsWithin P.MAXIMUM_SIZE
             (length (P.bytes path.old) + longest_key (pairs_of self.old)) }
         requires callable { CanRetain F.FnMut f.old
-            (with_prefix (P.bytes path.old) (pairs_of self.old)) }
+            (with_prefix (P.bytes path.old) (pairs_in part (pairs_of self.old))) }
         ensures canonical { IsCanonical self.new }
         ensures keeps_first { KeepsFirst (prefix_of self.old) (prefix_of self.new) }
         ensures path { P.bytes path.new ≡ P.bytes path.old }
-        ensures retains { RetainsBelow F.FnMut (P.bytes path.old) result f.old self.old self.new
-            f.new }
+        ensures retains { RetainsSubtree F.FnMut part.entry (P.bytes path.old) result f.old self.old
+            self.new f.new }
     {
         let count = path.len();
         extend(path, &self.storage);
-        let keeps = call_for_own(&mut self.storage, path.to_slice(), f);
+        let inside = part.after_prefix(self.storage.prefix());
+        let keeps = call_for_own(&mut self.storage, inside, path.to_slice(), f);
         let has_value = self.storage.has_value();
         let mut walk = Retention::Done;
-        let mut next = self.storage.first_byte();
+        let mut next = inside.first_byte(&self.storage);
         while let Some(byte) = next {
             let below = match self.storage.seek_child_mut(byte) {
-                Some(child) => child.retain_below(alloc, path, f),
+                Some(child) => child.retain_part(alloc, inside.at_child(byte), path, f),
                 None => unreachable!(),
             };
             walk = apply_to_child(&mut self.storage, alloc, byte, has_value, below);
-            next = following_byte(&self.storage, byte, walk);
+            next = following_byte(&self.storage, inside, byte, walk);
         }
         cut(path, count);
         self.finish(keeps, walk)
@@ -161,32 +176,66 @@ impl<P: Partial, V: Drop> DefaultNode<P, V> {
     fn retain_root<F: FnMut(&[u8], &mut V) -> bool>(
         &mut self,
         alloc: Global,
+        part: Part<'_>,
         f: &mut F,
     ) -> Retention
         requires canonical { IsCanonical self.old }
         requires within { IsWithin P.MAXIMUM_SIZE (longest_key (pairs_of self.old)) }
-        requires callable { CanRetain F.FnMut f.old (pairs_of self.old) }
+        requires callable { CanRetain F.FnMut f.old (pairs_in part (pairs_of self.old)) }
         ensures canonical { IsCanonical self.new }
-        ensures retains { RetainsBelow F.FnMut [] result f.old self.old self.new f.new }
+        ensures retains { RetainsSubtree F.FnMut part.entry [] result f.old self.old self.new
+            f.new }
     {
         let mut path = P::from_slice(&[]);
-        self.retain_below(alloc, &mut path, f)
+        self.retain_part(alloc, part, &mut path, f)
     }
 
     fn retain_tree<F: FnMut(&[u8], &mut V) -> bool>(
         root: &mut Option<Self>,
         alloc: Global,
+        part: Part<'_>,
         f: &mut F,
     ) -> Retention
         requires canonical { IsCanonicalTree root.old }
         requires within { IsWithin P.MAXIMUM_SIZE (longest_key (tree_pairs root.old)) }
-        requires callable { CanRetain F.FnMut f.old (tree_pairs root.old) }
+        requires callable { CanRetain F.FnMut f.old (pairs_in part (tree_pairs root.old)) }
         ensures canonical { IsCanonicalTree root.new }
-        ensures retains { RetainsTree F.FnMut result f.old root.old root.new f.new }
+        ensures retains { RetainsTree F.FnMut part.entry result f.old root.old root.new f.new }
     {
         match root {
-            Some(node) => node.retain_root(alloc, f),
+            Some(node) => node.retain_root(alloc, part, f),
             None => Retention::Done,
+        }
+    }
+
+    fn retain_in<F: FnMut(&[u8], &mut V) -> bool>(
+        root: &mut Option<Self>,
+        alloc: Global,
+        part: Part<'_>,
+        f: &mut F,
+    ) -> Result<(), TreeError>
+        requires canonical { IsCanonicalTree root.old }
+        requires within { IsWithin P.MAXIMUM_SIZE (longest_key (tree_pairs root.old)) }
+        requires callable { CanRetain F.FnMut f.old (pairs_in part (tree_pairs root.old)) }
+        ensures stays_callable { F.IsAlwaysCallable f.old → F.IsAlwaysCallable f.new }
+        ensures canonical { IsCanonicalTree root.new }
+        ensures retains { RetainsWhere F.FnMut (is_in_part part.entry) f.old (tree_pairs root.old)
+            result (tree_pairs root.new) f.new }
+        ensures count { length (tree_pairs root.new) ≤ length (tree_pairs root.old) }
+        ensures counts { length (tree_pairs root.new)
+            + length (pairs_in part.entry (tree_pairs root.old))
+            ≡ length (tree_pairs root.old) + length (pairs_in part.entry (tree_pairs root.new)) }
+        ensures longest_key { longest_key (tree_pairs root.new)
+            ≤ longest_key (tree_pairs root.old) }
+        ensures memory { IfErr result IsMemory }
+    {
+        match DefaultNode::retain_tree(root, alloc, part, f) {
+            Retention::Done => Ok(()),
+            Retention::Rejected => {
+                *root = None;
+                Ok(())
+            }
+            Retention::Refused => Err(TreeError::Memory),
         }
     }
 
@@ -215,13 +264,69 @@ impl<P: Partial, V: Drop> DefaultNode<P, V> {
             ≤ longest_key (tree_pairs root.old) }
         ensures memory { IfErr result IsMemory }
     {
-        match DefaultNode::retain_tree(root, alloc, f) {
-            Retention::Done => Ok(()),
-            Retention::Rejected => {
-                *root = None;
-                Ok(())
-            }
-            Retention::Refused => Err(TreeError::Memory),
-        }
+        DefaultNode::retain_in(root, alloc, Part::All, f)
+    }
+
+    /// Retains pairs as [`retain`](Self::retain), but only of those whose key begins with `prefix`. `f` is called with
+    /// no other pair, and no other pair is removed or changed.
+    ///
+    /// # Errors
+    ///
+    /// Those of [`retain`](Self::retain).
+    pub fn retain_below<F: FnMut(&[u8], &mut V) -> bool>(
+        root: &mut Option<Self>,
+        alloc: Global,
+        prefix: &[u8],
+        f: &mut F,
+    ) -> Result<(), TreeError>
+        requires canonical { IsCanonicalTree root.old }
+        requires within { IsWithin P.MAXIMUM_SIZE (longest_key (tree_pairs root.old)) }
+        requires callable { CanRetain F.FnMut f.old (below prefix.now (tree_pairs root.old)) }
+        ensures stays_callable { F.IsAlwaysCallable f.old → F.IsAlwaysCallable f.new }
+        ensures canonical { IsCanonicalTree root.new }
+        ensures retains { RetainsBelow F.FnMut prefix.now f.old (tree_pairs root.old) result
+            (tree_pairs root.new) f.new }
+        ensures count { length (tree_pairs root.new) ≤ length (tree_pairs root.old) }
+        ensures counts { length (tree_pairs root.new)
+            + length (below prefix.now (tree_pairs root.old))
+            ≡ length (tree_pairs root.old) + length (below prefix.now (tree_pairs root.new)) }
+        ensures longest_key { longest_key (tree_pairs root.new)
+            ≤ longest_key (tree_pairs root.old) }
+        ensures memory { IfErr result IsMemory }
+    {
+        DefaultNode::retain_in(root, alloc, Part::Below(prefix), f)
+    }
+
+    /// Retains pairs as [`retain`](Self::retain), but only of those whose key is within both bounds. `f` is called with
+    /// no other pair, and no other pair is removed or changed. If the end is before the start, no pair is within.
+    ///
+    /// # Errors
+    ///
+    /// Those of [`retain`](Self::retain).
+    pub fn retain_within<F: FnMut(&[u8], &mut V) -> bool>(
+        root: &mut Option<Self>,
+        alloc: Global,
+        start: Bound<&[u8]>,
+        end: Bound<&[u8]>,
+        f: &mut F,
+    ) -> Result<(), TreeError>
+        requires canonical { IsCanonicalTree root.old }
+        requires within { IsWithin P.MAXIMUM_SIZE (longest_key (tree_pairs root.old)) }
+        requires callable { CanRetain F.FnMut f.old
+            (between (lent_bound start) (lent_bound end) (tree_pairs root.old)) }
+        ensures stays_callable { F.IsAlwaysCallable f.old → F.IsAlwaysCallable f.new }
+        ensures canonical { IsCanonicalTree root.new }
+        ensures retains { RetainsBetween F.FnMut (lent_bound start.entry) (lent_bound end.entry)
+            f.old (tree_pairs root.old) result (tree_pairs root.new) f.new }
+        ensures count { length (tree_pairs root.new) ≤ length (tree_pairs root.old) }
+        ensures counts { length (tree_pairs root.new)
+            + length (between (lent_bound start.entry) (lent_bound end.entry) (tree_pairs root.old))
+            ≡ length (tree_pairs root.old)
+            + length (between (lent_bound start.entry) (lent_bound end.entry) (tree_pairs root.new)) }
+        ensures longest_key { longest_key (tree_pairs root.new)
+            ≤ longest_key (tree_pairs root.old) }
+        ensures memory { IfErr result IsMemory }
+    {
+        DefaultNode::retain_in(root, alloc, Part::Between(start, end), f)
     }
 }

@@ -1,6 +1,6 @@
 use Rattle.rart_trie.specs.ranges.LentBounds.{lent_bound}
 use Rattle.rart_trie.specs.storages.Stored.{child_entries, storage_capacity, stored_prefix, stored_value}
-use Rattle.rart_trie.proofs.changes.RangeChangeLemmas.{is_between}
+use Rattle.rart_trie.proofs.ranges.BetweenLemmas.{is_between}
 use Rattle.rart_trie.proofs.changes.ValueWalkLemmas.{Changing}
 use Rattle.rart_trie.proofs.storages.EntryPlaces.{ahead_count}
 use Rattle.rart_trie.proofs.node.DefaultNode.+change_within.Given as goal

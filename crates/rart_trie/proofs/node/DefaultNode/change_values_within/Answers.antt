@@ -1,6 +1,6 @@
 use Rattle.rart_trie.specs.ranges.LentBounds.{lent_bound}
 use Rattle.rart_trie.specs.tries.Trie.{pairs_of}
-use Rattle.rart_trie.proofs.changes.RangeChangeLemmas.{is_between}
+use Rattle.rart_trie.proofs.ranges.BetweenLemmas.{is_between}
 use Rattle.rart_trie.proofs.changes.ValueChangeLemmas.{always-after-changes, changes-keys}
 use Rattle.rart_trie.proofs.edits.LoanLemmas.{lengths-alike, longest-alike}
 use Rattle.rart_trie.proofs.shapes.ShapeLemmas.{equal_nodes}

@@ -28,7 +28,6 @@ loop-key-preserved g c = record {
   finite = search rules;
   at_is = place-more c.loop-key.yielded (c.in-Some.key, c.in-Some.value) _ _ _ c.loop-key.invariant.at_is
       c.saturating_add-at.ensures;
-  few = c.keep_last.ensures.at_most;
   read = rw (pairs-more g.K.KeyTrait.bytes c.loop-key.yielded (c.in-Some.key, c.in-Some.value))
       (c.in_default.ensures.keeps_item (pairs_in g.K.KeyTrait.bytes c.loop-key.yielded) c.loop-key.invariant.read);
 }

@@ -1,0 +1,4 @@
+pub mod PlanSteps
+pub mod SideSteps
+pub mod SplitTries
+pub mod TakenTrees
