@@ -97,7 +97,7 @@ impl FourKeys {
     {
         let count = self.count as usize;
         self.count += 1;
-        // Sorted insertions add each child so, without a search.
+        // Bulk loads and sorted insertions add each child so, without a search.
         if goes_last(key, &self.keys, count) {
             self.keys[count] = key;
             children.push(node);

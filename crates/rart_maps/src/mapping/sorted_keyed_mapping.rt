@@ -263,7 +263,7 @@ impl<N, const W: usize, E> NodeMapping<N, W> for SortedKeyedMapping<N, W, E> {
     #[inline(always)]
     fn add_child(&mut self, key: u8, node: N) {
         let count = self.block.len();
-        // Sorted insertions add each child so, without a search.
+        // Bulk loads and sorted insertions add each child so, without a search.
         if goes_last(key, self.block.keys(), count) {
             self.block.keys_mut()[count] = key;
             self.block.push(node);

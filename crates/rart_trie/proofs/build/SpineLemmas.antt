@@ -59,6 +59,10 @@ starts-itself : (p : List ℕ) → 0 < length p → StartsWith (slice_index p 0)
 starts-itself [] h = absurd (omega arith)
 starts-itself (x ∷ p) h = refl
 
+-- the last is the first of the reversed list
+pub reversed-last : {A : Type 0} (xs ys : List A) (x : A) → ys ≡ xs ++ x ∷ [] → reverse ys ≡ x ∷ reverse xs
+reversed-last xs ys x e = ap reverse e ∙ reverse-append xs (x ∷ [])
+
 module _ {V : Type 0} where
   ends-more : (b c : ℕ) (t : Trie V) (es : List (ℕ × Trie V)) → b < c → EndsBelow b es → EndsBelow c (es ++ (b, t) ∷ [])
   ends-more b c t [] l h = (l, tt)
@@ -90,10 +94,6 @@ module _ {V : Type 0} where
   pub entries-length : (ts : List (Trie V)) → length (edge_entries ts) ≡ length ts
   entries-length [] = refl
   entries-length (t ∷ ts) = omega (arith, entries-length ts)
-
-  -- the innermost node is the last
-  pub innermost : (fs gs : List (Frame V)) (f : Frame V) → gs ≡ fs ++ f ∷ [] → reverse gs ≡ f ∷ reverse fs
-  innermost fs gs f e = ap reverse e ∙ reverse-append fs (f ∷ [])
 
   -- all unfinished nodes are above the end of the key
   spine-inside : (k : List ℕ) (fs : List (Frame V)) (ts : List (Trie V)) → IsSpine k fs ts → IsShallow (length k) fs

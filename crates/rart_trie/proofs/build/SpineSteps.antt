@@ -12,7 +12,7 @@ use Rattle.rart_trie.specs.shapes.Shape.{capacity_of}
 use Rattle.rart_trie.specs.tries.Trie.{Trie, node, Children, pairs_of}
 use Rattle.rart_trie.specs.tries.TrieCode.{as_children}
 use Rattle.std.proofs.lemmas.List.{take_more_same}
-use Rattle.rart_trie.proofs.build.SpineLemmas.{HasMore, closed-more, goes-on, innermost, one-more, opened, parted}
+use Rattle.rart_trie.proofs.build.SpineLemmas.{HasMore, closed-more, goes-on, one-more, opened, parted, reversed-last}
 use Rattle.rart_trie.proofs.edits.InsertLemmas.{fewer-within}
 
 -- a part of a key within a maximum is within it
@@ -34,7 +34,7 @@ parts k n m less c = parted m k n less c.same c.within_left c.within_right (λ g
 pub reached-new : {V A E : Type 0} (r : Result A E) (d n : ℕ) (fs gs : List (Frame V)) → IsShallow d (reverse fs)
     → OnOk r (gs ≡ fs ++ record { depth = d; start = n; value = None } ∷ [])
     → OnOk r (IsReached d n (reverse fs) (reverse gs))
-reached-new (Ok a) d n fs gs h e = inl (h, innermost fs gs (record { depth = d; start = n; value = None }) e)
+reached-new (Ok a) d n fs gs h e = inl (h, reversed-last fs gs (record { depth = d; start = n; value = None }) e)
 reached-new (Err e') d n fs gs h e = tt
 
 module _ {V : Type 0} (k : List ℕ) where
@@ -43,7 +43,7 @@ module _ {V : Type 0} (k : List ℕ) where
       (all : List (List ℕ × V)) → IsClosed k (reverse gs) ts end t all → gs ≡ hs ++ f ∷ []
       → (f.depth < end) × (end ≤ length k)
   frame-inside hs gs f ts end t all h e = (
-    subst (λ (fs : List (Frame V)). IsShallow end fs) (innermost hs gs f e) h.shallow,
+    subst (λ (fs : List (Frame V)). IsShallow end fs) (reversed-last hs gs f e) h.shallow,
     h.reach,
   )
 
@@ -52,7 +52,7 @@ module _ {V : Type 0} (k : List ℕ) where
       (h : IsClosed k (reverse gs) ts end (node [] v c cs) all) (popped : gs ≡ hs ++ f ∷ [])
       (waits : us ≡ ts ++ node (take (end - f.depth) (drop f.depth k)) v c cs ∷ []) where
     spine-now : IsSpine k (f ∷ reverse hs) ts
-    spine-now = subst (λ (fs : List (Frame V)). IsSpine k fs ts) (innermost hs gs f popped) h.spine
+    spine-now = subst (λ (fs : List (Frame V)). IsSpine k fs ts) (reversed-last hs gs f popped) h.spine
 
     -- the children of the innermost unfinished node
     pub frame-children : HasMore k f ts us (pairs_of (node (take end k) v c cs))
@@ -65,7 +65,7 @@ module _ {V : Type 0} (k : List ℕ) where
         → IsClosed k (reverse hs) ws f.depth (node [] v' c' cs') all
     frame-closed ws v' c' cs' ew ev ec es = rw (ew, ev, ec, es) (closed-more k small end h.reach v c cs h.canonical f
         (reverse hs) ts us all spine-now (frame-inside hs gs f ts end (node [] v c cs) all h popped).0
-        (ap (λ fs. spine_pairs k fs ts ++ pairs_of (node (take end k) v c cs)) (sym (innermost hs gs f popped)) ∙ h.pairs)
+        (ap (λ fs. spine_pairs k fs ts ++ pairs_of (node (take end k) v c cs)) (sym (reversed-last hs gs f popped)) ∙ h.pairs)
         waits)
 
   -- the next key goes on at the depth d
@@ -93,7 +93,7 @@ key-begins (Ok a) k n m v gs hs ts us h less common whole e eu =
     let same : take (length k) k ≡ take (length k) n = subst (λ (z : ℕ). take z k ≡ take z n) whole common.same in
     let goes : length k < length n = omega (arith, (parts k n m less common).0, whole) in
     let o = opened k n v (reverse gs) (reverse hs) ts us h same goes
-    (innermost gs hs (record { depth = m; start = length ts; value = Some v }) e ∙ all) eu in
+    (reversed-last gs hs (record { depth = m; start = length ts; value = Some v }) e ∙ all) eu in
     (o.0, o.1)
 key-begins (Err e') k n m v gs hs ts us h less common whole e eu = (tt, tt)
 

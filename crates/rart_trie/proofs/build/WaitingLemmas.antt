@@ -1,113 +1,150 @@
--- The finished children of an unfinished node, put into its storage from the last to the first.
-use Rattle.std.proofs.Common.{◌≡◌, ℕ, ◌+◌, ◌-◌, ◌<◌, ◌≤◌, zero, suc, List, [], ◌∷◌, ◌++◌, length, length-append}
-use Rattle.std.proofs.Common.{drop, refl, arith, sym, ap, ◌∙◌, None, subst}
-use Rattle.std.specs.Prelude.{slice_index}
-use Rattle.std.proofs.Math.Seq.{append_snoc, drop-append_seam}
+-- The finished children of an unfinished node, put into its storage in their order.
+use Rattle.std.proofs.Common.{◌≡◌, ℕ, ◌<◌, ◌≤◌, List, [], ◌∷◌, ◌++◌, length, length-append, take, drop, refl, arith}
+use Rattle.std.proofs.Common.{sym, ap, ap₂, ◌∙◌, None, subst}
+use Rattle.std.specs.Prelude.{◌-◌, reverse, slice_index}
+use borrow.Rule.Slice.PartMut.{post_of}
 use Rattle.std.proofs.lemmas.Bool.Decides.{nat_tests}
-use Rattle.std.proofs.lemmas.List.{append-nil, drop-drop, length-drop, nil_from_length}
-use Rattle.rart_keys.proofs.strings.ByteOrder.{eq-no}
+use Rattle.std.proofs.lemmas.List.{append_assoc, append-nil, drop_all, length-drop, length-reverse, length-take-le}
+use Rattle.std.proofs.lemmas.List.{map-append, nil_from_length, reverse-append, reverse-reverse, take_all}
 use Rattle.rart_parts.specs.Entries.{child_at, with_entry}
 use Rattle.rart_trie.specs.build.Spine.{edge_entries}
 use Rattle.rart_trie.specs.shapes.Shape.{capacity_of}
 use Rattle.rart_trie.specs.tries.Trie.{Trie, prefix_of, AreCanonical, StartsWith}
 use Rattle.rart_trie.specs.tries.TrieCode.{as_children}
-use Rattle.rart_trie.proofs.storages.ChildLemmas.{lt-yes}
-use Rattle.rart_trie.proofs.build.SpineLemmas.{entries-length}
+use Rattle.rart_trie.proofs.build.SpineLemmas.{entries-length, reversed-last}
+use Rattle.rart_trie.proofs.storages.EntryPlaces.{front-absent, goes-behind, middle-first}
 
 -- a free slot while a child is to come
 capacity-free : (n k : ℕ) → n < k → k ≤ 256 → n < capacity_of k
 capacity-free n k h l = grind (arith, nat_tests)
 
--- a list without its last, and the rest after it
-pub one-taken : {A : Type 0} (all old new : List A) (x : A) → old ++ drop (length old) all ≡ all → old ≡ new ++ x ∷ []
-    → (new ++ drop (length new) all ≡ all) × (drop (length new) all ≡ x ∷ drop (length old) all)
-one-taken all old new x h e =
-    let rest = drop (length old) all in
-    let whole : all ≡ new ++ (x ∷ rest) = sym h ∙ ap (λ z. z ++ rest) e ∙ append_snoc new x rest in
-    let cut : drop (length new) all ≡ x ∷ rest = ap (drop (length new)) whole ∙ drop-append_seam new (x ∷ rest) in
-    (ap (λ z. new ++ z) cut ∙ sym whole, cut)
-
--- all are there
-pub none-taken : {A : Type 0} (all now : List A) → now ≡ all → (now ++ drop (length now) all ≡ all)
-    × (drop (length now) all ≡ [])
-none-taken all now e = let none : drop (length now) all ≡ [] = nil_from_length (drop (length now) all)
-    (omega (arith, length-drop (length now) all, ap length e)) in
-    (ap (λ z. now ++ z) none ∙ append-nil now ∙ e, none)
-
 more-prefix : (b : ℕ) (p : List ℕ) → StartsWith b p → 0 < length p
 more-prefix b [] h = absurd h
 more-prefix b (x ∷ p) h = omega arith
 
-module _ {V : Type 0} where
-  -- canonical nodes at bytes from `low` on have none at a byte below
-  pub none-below : (b low : ℕ) (es : List (ℕ × Trie V)) → b < low → AreCanonical low (as_children es)
-      → child_at b es ≡ None
-  none-below b low [] l h = refl
-  none-below b low (e ∷ es) l h = rw (eq-no e.0 b (λ q. omega (arith, q, l, h.0)))
-      (none-below b (suc e.0) es (omega (arith, l, h.0)) h.3)
+-- a list whose end was reversed in place, as a vector holds it
+pub turned : {A : Type 0} (n start : ℕ) (all now part : List A) → n ≡ length all → now ≡ all → start ≤ length all
+    → part ≡ reverse (take (length now - start) (drop start now))
+    → take n (take start now ++ (part ++ post_of start (length now - start) now)
+    ++ drop (length (take start now ++ (part ++ post_of start (length now - start) now))) all)
+    ≡ take start all ++ reverse (drop start all)
+turned n start all now part count same l e =
+    let rest = drop start all in
+    let short : length rest ≤ length all - start = omega (arith, length-drop start all) in
+    let back : part ≡ reverse rest = e ∙ ap (λ z. reverse (take (length z - start) (drop start z))) same
+    ∙ ap reverse (take_all (length all - start) rest short) in
+    let none : post_of start (length now - start) now ≡ []
+    = ap (λ z. post_of start (length z - start) z) same ∙ drop_all (length all - start) rest short in
+    let whole : take start now ++ (part ++ post_of start (length now - start) now) ≡ take start all ++ reverse rest
+    = ap₂ (λ y z. take start y ++ z) same (ap₂ ◌++◌ back none ∙ append-nil (reverse rest)) in
+    let long : length (take start all ++ reverse rest) ≡ length all = omega (
+      arith,
+      length-append (take start all) (reverse rest),
+      length-take-le start all l,
+      length-reverse rest,
+      length-drop start all,
+    ) in
+    ap (λ z. take n (z ++ drop (length z) all)) whole
+    ∙ ap (λ z. take n (take start all ++ reverse rest ++ z))
+    (drop_all (length (take start all ++ reverse rest)) all (omega (arith, long)))
+    ∙ ap (take n) (append-nil (take start all ++ reverse rest))
+    ∙ take_all n (take start all ++ reverse rest) (omega (arith, count, long))
 
-  -- and a child at a byte below goes in front
-  pub in-front : (b : ℕ) (t : Trie V) (es : List (ℕ × Trie V)) → AreCanonical (suc b) (as_children es)
-      → with_entry b t es ≡ (b, t) ∷ es
-  in-front b t [] h = refl
-  in-front b t (e ∷ es) h = rw (lt-yes b e.0 (omega (arith, h.0))) refl
+-- of the children from `start` on, `done` are in the storage, and `rest` wait, the first of them last
+pub record IsAdding {V : Type 0} (start : ℕ) (all now : List (Trie V)) (es : List (ℕ × Trie V)) : Type 0 where
+  pub done : List (Trie V)
+  pub rest : List (Trie V)
+  pub whole : drop start all ≡ done ++ rest
+  pub waits : reverse now ≡ rest ++ reverse (take start all)
+  pub made : es ≡ edge_entries done
 
-  from-lower : (low : ℕ) (es : List (ℕ × Trie V)) → AreCanonical low (as_children es) → AreCanonical 0 (as_children es)
-  from-lower low [] h = tt
-  from-lower low (e ∷ es) h = (omega arith, h.1, h.2, h.3)
+module _ {V : Type 0} (start : ℕ) (all : List (Trie V)) where
+  pub none-added : (now : List (Trie V)) (es : List (ℕ × Trie V)) → now ≡ take start all ++ reverse (drop start all)
+      → es ≡ [] → IsAdding start all now es
+  none-added now es e m = record {
+    done = [];
+    rest = drop start all;
+    whole = refl;
+    waits = ap reverse e ∙ reverse-append (take start all) (reverse (drop start all))
+        ∙ ap (λ z. z ++ reverse (take start all)) (reverse-reverse (drop start all));
+    made = m;
+  }
 
-  rest-canonical : (low n : ℕ) (ts : List (Trie V)) → AreCanonical low (as_children (edge_entries ts))
-      → AreCanonical 0 (as_children (edge_entries (drop n ts)))
-  rest-canonical low zero ts h = from-lower low (edge_entries ts) h
-  rest-canonical low (suc n) [] h = tt
-  rest-canonical low (suc n) (t ∷ ts) h = rest-canonical (suc (slice_index (prefix_of t) 0)) n ts h.3
+  -- the next child that is taken from the end
+  pub record HasNext (now new : List (Trie V)) (es : List (ℕ × Trie V)) (t : Trie V) : Type 0 where
+    pub prefix : 0 < length (prefix_of t)
+    pub absent : child_at (slice_index (prefix_of t) 0) es ≡ None
+    pub free : length es < capacity_of (length (drop start all))
+    pub adds : (fs : List (ℕ × Trie V)) → fs ≡ with_entry (slice_index (prefix_of t) 0) t es
+        → IsAdding start all new fs
 
-  -- the last of those that wait is canonical, and so are those after it
-  last-canonical : (start : ℕ) (all old new : List (Trie V)) (t : Trie V)
-      → AreCanonical 0 (as_children (edge_entries (drop start all))) → old ++ drop (length old) all ≡ all
-      → old ≡ new ++ t ∷ [] → start < length old
-      → AreCanonical 0 (as_children (edge_entries (t ∷ drop (length old) all)))
-  last-canonical start all old new t up whole taken more =
-      let cut : drop (length new) all ≡ t ∷ drop (length old) all = (one-taken all old new t whole taken).1 in
-      let shorter : start + (length new - start) ≡ length new
-      = omega (arith, more, ap length taken, length-append new (t ∷ [])) in
-      let same : drop (length new - start) (drop start all) ≡ drop (length new) all
-      = drop-drop (length new - start) start all ∙ ap (λ z. drop z all) shorter in
-      subst (λ (us : List (Trie V)). AreCanonical 0 (as_children (edge_entries us))) (same ∙ cut)
-      (rest-canonical 0 (length new - start) (drop start all) up)
+  module _ (up : AreCanonical 0 (as_children (edge_entries (drop start all)))) (few : length (drop start all) ≤ 256)
+      (starts : start ≤ length all) where
+    next-of : (now new : List (Trie V)) (es : List (ℕ × Trie V)) (t : Trie V) (done rest : List (Trie V))
+        → drop start all ≡ done ++ rest → reverse now ≡ rest ++ reverse (take start all) → es ≡ edge_entries done
+        → start < length now → now ≡ new ++ t ∷ [] → HasNext now new es t
+    next-of now new es t done [] whole waits made more taken = absurd (omega (
+      arith,
+      more,
+      ap length waits,
+      length-reverse now,
+      length-reverse (take start all),
+      length-take-le start all starts,
+    ))
+    next-of now new es t done (x ∷ rest) whole waits made more taken =
+        let last : t ∷ reverse new ≡ x ∷ rest ++ reverse (take start all) = sym (reversed-last new now t taken) ∙ waits in
+        let same : x ≡ t = cc in
+        let left : reverse new ≡ rest ++ reverse (take start all) = cc in
+        let b = slice_index (prefix_of t) 0 in
+        let order : drop start all ≡ done ++ t ∷ rest = whole ∙ ap (λ z. done ++ z ∷ rest) same in
+        let entries : edge_entries (drop start all) ≡ edge_entries done ++ (b, t) ∷ edge_entries rest
+        = ap edge_entries order ∙ map-append (λ u. (slice_index (prefix_of u) 0, u)) done (t ∷ rest) in
+        let ascending : AreCanonical 0 (as_children (edge_entries done ++ (b, t) ∷ edge_entries rest))
+        = subst (λ (fs : List (ℕ × Trie V)). AreCanonical 0 (as_children fs)) entries up in
+        record {
+          prefix = more-prefix b (prefix_of t) (middle-first b 0 t (edge_entries done) (edge_entries rest) ascending);
+          absent = ap (child_at b) made ∙ front-absent b 0 t (edge_entries done) (edge_entries rest) ascending;
+          free = capacity-free (length es) (length (drop start all)) (omega (
+            arith,
+            ap length made,
+            entries-length done,
+            ap length order,
+            length-append done (t ∷ rest),
+          )) few;
+          adds = λ fs e. record {
+            done = done ++ t ∷ [];
+            rest = rest;
+            whole = order ∙ sym (append_assoc done (t ∷ []) rest);
+            waits = left;
+            made = e ∙ ap (with_entry b t) made ∙ goes-behind b 0 t (edge_entries done) (edge_entries rest) ascending
+                ∙ sym (map-append (λ u. (slice_index (prefix_of u) 0, u)) done (t ∷ []));
+          };
+        }
 
-  pub last-prefix : (start : ℕ) (all old new : List (Trie V)) (t : Trie V)
-      → AreCanonical 0 (as_children (edge_entries (drop start all))) → old ++ drop (length old) all ≡ all
-      → old ≡ new ++ t ∷ [] → start < length old → 0 < length (prefix_of t)
-  last-prefix start all old new t up whole taken more
-      = more-prefix (slice_index (prefix_of t) 0) (prefix_of t) (last-canonical start all old new t up whole taken more).1
+    pub next-added : (now new : List (Trie V)) (es : List (ℕ × Trie V)) (t : Trie V) → IsAdding start all now es
+        → start < length now → now ≡ new ++ t ∷ [] → HasNext now new es t
+    next-added now new es t h more taken
+        = next-of now new es t h.done h.rest h.whole h.waits h.made more taken
 
-  -- the next child has a slot, in front of the others
-  module _ (start : ℕ) (all old new : List (Trie V)) (t : Trie V) (es : List (ℕ × Trie V)) (w b : ℕ)
-      (up : AreCanonical 0 (as_children (edge_entries (drop start all)))) (few : length (drop start all) ≤ 256)
-      (whole : old ++ drop (length old) all ≡ all) (taken : old ≡ new ++ t ∷ []) (more : start < length old)
-      (made : es ≡ edge_entries (drop (length old) all)) (wide : w ≡ capacity_of (length (drop start all)))
-      (byte : b ≡ slice_index (prefix_of t) 0) where
-    next-canonical : AreCanonical 0 (as_children (edge_entries (t ∷ drop (length old) all)))
-    next-canonical = last-canonical start all old new t up whole taken more
+  -- all are added
+  pub record AreAdded (now : List (Trie V)) (es : List (ℕ × Trie V)) : Type 0 where
+    pub rest : now ≡ take start all
+    pub made : es ≡ edge_entries (drop start all)
 
-    pub slot-free : (child_at b es ≡ None) × (length es < w)
-    slot-free = (
-      rw (made, byte) (none-below (slice_index (prefix_of t) 0) (suc (slice_index (prefix_of t) 0))
-          (edge_entries (drop (length old) all)) (omega arith) next-canonical.3),
-      rw wide (capacity-free (length es) (length (drop start all)) (omega (
+  pub all-added : start ≤ length all → (now : List (Trie V)) (es : List (ℕ × Trie V)) → IsAdding start all now es
+      → length now ≤ start → AreAdded now es
+  all-added starts now es h short =
+      let none : h.rest ≡ [] = nil_from_length h.rest (omega (
         arith,
-        more,
-        ap length made,
-        entries-length (drop (length old) all),
-        length-drop (length old) all,
-        length-drop start all,
-        ap length whole,
-        length-append old (drop (length old) all),
-      )) few),
-    )
-
-    pub child-made : (fs : List (ℕ × Trie V)) → fs ≡ with_entry b t es → fs ≡ edge_entries (drop (length new) all)
-    child-made fs e = e ∙ ap (λ z. with_entry z t es) byte ∙ ap (with_entry (slice_index (prefix_of t) 0) t) made
-        ∙ in-front (slice_index (prefix_of t) 0) t (edge_entries (drop (length old) all)) next-canonical.3
-        ∙ ap edge_entries (sym (one-taken all old new t whole taken).1)
+        short,
+        ap length h.waits,
+        length-append h.rest (reverse (take start all)),
+        length-reverse now,
+        length-reverse (take start all),
+        length-take-le start all starts,
+      )) in
+      record {
+        rest = sym (reverse-reverse now) ∙ ap reverse (h.waits ∙ ap (λ z. z ++ reverse (take start all)) none)
+            ∙ reverse-reverse (take start all);
+        made = h.made ∙ ap edge_entries (sym (append-nil h.done) ∙ ap (λ z. h.done ++ z) (sym none) ∙ sym h.whole);
+      }

@@ -2,12 +2,12 @@
 use Rattle.std.proofs.Common.{◌≡◌, ℕ, ◌+◌, ◌<◌, ◌≤◌, ⊎_elim, suc, Bool, not}
 use Rattle.std.proofs.Common.{List, [], ◌∷◌, ◌++◌, length, length-append, refl, sym, ap, ap₂, ◌∙◌, arith, subst}
 use Rattle.std.proofs.Common.{Option, Some, None}
-use Rattle.std.proofs.lemmas.List.{append-nil, append_assoc, reverse-append}
+use Rattle.std.proofs.lemmas.List.{append-nil, append_assoc}
 use Rattle.std.specs.Prelude.{IfSome, reverse}
 use Rattle.rart_keys.specs.Filters.{last_or}
 use Rattle.rart_keys.specs.KeyBytes.{IsWithin}
 use Rattle.rart_keys.specs.SortedMap.{longest_key}
-use Rattle.rart_parts.specs.Entries.{child_at, replaced_at, without_byte}
+use Rattle.rart_parts.specs.Entries.{child_at, replaced_at, with_entry, without_byte}
 use Rattle.rart_trie.specs.declared.node.edits.split.Sides.{Sides}
 use Rattle.rart_trie.specs.declared.node.edits.split.Step.{Step}
 use Rattle.rart_trie.specs.declared.node.edits.split.Step.TheVariants.{Whole, Split}
@@ -26,9 +26,8 @@ use Rattle.rart_trie.proofs.edits.JoinedLengths.{entry-short}
 use Rattle.rart_trie.proofs.splits.PlanSteps.{splits-last}
 use Rattle.rart_trie.proofs.splits.SplitTries.{child_if-count, children_canonical-where, count-append, joins-where}
 use Rattle.rart_trie.proofs.splits.SplitTries.{one_if}
-use Rattle.rart_trie.proofs.build.WaitingLemmas.{in-front, none-below}
 use Rattle.rart_trie.proofs.retentions.ChangedChildren.{middle-without}
-use Rattle.rart_trie.proofs.storages.ChildLemmas.{edges_of-length}
+use Rattle.rart_trie.proofs.storages.ChildLemmas.{edges_of-length, lt-yes}
 use Rattle.rart_trie.proofs.storages.EntryPlaces.{back-canonical, middle-at, middle-canonical, middle-count}
 
 -- a list ends with x
@@ -55,6 +54,18 @@ no-last [] h = refl
 no-last (e ∷ es) h = absurd (none-from e es h)
 
 module _ {V : Type 0} where
+  -- canonical nodes at bytes from `low` on have none at a byte below
+  none-below : (b low : ℕ) (es : List (ℕ × Trie V)) → b < low → AreCanonical low (as_children es) → child_at b es ≡ None
+  none-below b low [] l h = refl
+  none-below b low (e ∷ es) l h = rw (eq-no e.0 b (λ q. omega (arith, q, l, h.0)))
+      (none-below b (suc e.0) es (omega (arith, l, h.0)) h.3)
+
+  -- and a child at a byte below goes in front
+  in-front : (b : ℕ) (t : Trie V) (es : List (ℕ × Trie V)) → AreCanonical (suc b) (as_children es)
+      → with_entry b t es ≡ (b, t) ∷ es
+  in-front b t [] h = refl
+  in-front b t (e ∷ es) h = rw (lt-yes b e.0 (omega (arith, h.0))) refl
+
   -- entries of which one is replaced
   without-replaced : (b : ℕ) (w : Trie V) (es : List (ℕ × Trie V))
       → without_byte b (replaced_at b w es) ≡ without_byte b es
@@ -145,9 +156,6 @@ module _ {P V : Type 0} where
   pub splits-empty : (t : List ℕ → Bool) (u : Trie V) (s : Sides P V) (steps rest : List (Step P V))
       → SplitsBy t u (Split s ∷ steps) rest → (stored_value s.inside ≡ None) × (stored_value s.outside ≡ None)
   splits-empty t (node p v n cs) s steps rest x = (x.0.inside.value, x.0.outside.value)
-
-  pub top-step : (old new : List (Step P V)) (x : Step P V) → old ≡ new ++ x ∷ [] → reverse old ≡ x ∷ reverse new
-  top-step old new x e = ap reverse e ∙ reverse-append new (x ∷ [])
 
   pub some-items : (items : List (Step P V)) → (reverse items ≡ [] → ⊥) → 0 < length items
   some-items [] h = absurd (h refl)

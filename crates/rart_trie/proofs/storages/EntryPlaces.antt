@@ -6,7 +6,7 @@ use Rattle.std.proofs.lemmas.List.{append_assoc}
 use Rattle.rart_keys.specs.ByteStrings.{begins}
 use Rattle.rart_keys.specs.Filters.{below}
 use Rattle.rart_keys.proofs.strings.ByteOrder.{eq-yes, eq-no}
-use Rattle.rart_parts.specs.Entries.{child_at, entries_above, replaced_at}
+use Rattle.rart_parts.specs.Entries.{child_at, entries_above, replaced_at, with_entry}
 use Rattle.rart_trie.specs.shapes.Shape.{capacity_of}
 use Rattle.rart_trie.specs.tries.Trie.{Trie, node, Children, child, no_children, pairs_of, children_pairs}
 use Rattle.rart_trie.specs.tries.Trie.{AreCanonical, HasTwoChildren, IsCanonical, StartsWith, edges_of, prefix_of}
@@ -153,6 +153,20 @@ module _ {V : Type 0} where
       → AreCanonical low (as_children (xs ++ (b, u) ∷ ys)) → StartsWith b (prefix_of u)
   middle-first b low u [] ys w = w.1
   middle-first b low u (x ∷ xs) ys w = middle-first b (suc x.0) u xs ys w.3
+
+  -- those in front of it have no child at b, and it goes behind them
+  pub front-absent : (b low : ℕ) (u : Trie V) (xs ys : List (ℕ × Trie V))
+      → AreCanonical low (as_children (xs ++ (b, u) ∷ ys)) → child_at b xs ≡ None
+  front-absent b low u [] ys w = refl
+  front-absent b low u (x ∷ xs) ys w = rw (eq-no x.0 b (λ q. omega (arith, q, middle-low b (suc x.0) u xs ys w.3)))
+      (front-absent b (suc x.0) u xs ys w.3)
+
+  pub goes-behind : (b low : ℕ) (u : Trie V) (xs ys : List (ℕ × Trie V))
+      → AreCanonical low (as_children (xs ++ (b, u) ∷ ys)) → with_entry b u xs ≡ xs ++ (b, u) ∷ []
+  goes-behind b low u [] ys w = refl
+  goes-behind b low u (x ∷ xs) ys w = let l = middle-low b (suc x.0) u xs ys w.3 in
+      rw (lt-no b x.0 (omega (arith, l)), eq-no x.0 b (λ q. omega (arith, q, l)))
+      (ap (λ z. x ∷ z) (goes-behind b (suc x.0) u xs ys w.3))
 
   pub middle-count : (b : ℕ) (u : Trie V) (xs ys : List (ℕ × Trie V))
       → node_count u ≤ child_count (as_children (xs ++ (b, u) ∷ ys))

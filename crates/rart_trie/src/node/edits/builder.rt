@@ -223,7 +223,8 @@ impl<P: Partial, V: Drop> Builder<P, V> {
             Some(own) => storage = storage.with_value(own),
             None => {}
         }
-        // the last child first: each is then added in front
+        // the first child last: each is then taken from the end, and goes behind those before it
+        self.waiting[start..].reverse();
         while start < self.waiting.len() {
             let child = self.waiting.take_last();
             storage.add_within(child.prefix().at(0), child);

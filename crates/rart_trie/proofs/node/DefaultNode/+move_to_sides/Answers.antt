@@ -4,7 +4,8 @@ use Rattle.rart_trie.specs.tries.Trie.{prefix_of}
 use Rattle.rart_trie.proofs.splits.SideSteps.{below-splits, last-canonical, last-fewer, last-there, last-within}
 use Rattle.rart_trie.proofs.splits.SideSteps.{moved-all, moving-start, same-last, shorter, some-items, some-step}
 use Rattle.rart_trie.proofs.splits.SideSteps.{split-inside_makes, split-inside_slot, split-moved, split-outside_makes}
-use Rattle.rart_trie.proofs.splits.SideSteps.{split-outside_slot, split-rest, split-stored, splits-empty, top-step}
+use Rattle.rart_trie.proofs.splits.SideSteps.{split-outside_slot, split-rest, split-stored, splits-empty}
+use Rattle.rart_trie.proofs.build.SpineLemmas.{reversed-last}
 use Rattle.rart_trie.proofs.splits.SideSteps.{whole-inside_slot, whole-moved, whole-outside_slot}
 use Rattle.rart_trie.proofs.node.DefaultNode.+move_to_sides.Goals as goal
 
@@ -38,12 +39,12 @@ take_last-requires g t c =
 pub move_child-requires-clause-inside : goal.move_child-requires-clause-inside
 move_child-requires-clause-inside g t c =
     let m = c.loop-byte.invariant.moving c.requires.planned.0 c.requires.planned.1.0 c.requires.planned.1.1 in
-    whole-inside_slot m c.requires.canonical c.in-Some.ensures (top-step _ _ _ c.in-Whole.ensures.items)
+    whole-inside_slot m c.requires.canonical c.in-Some.ensures (reversed-last _ _ _ c.in-Whole.ensures.items)
 
 pub move_child-requires-clause-outside : goal.move_child-requires-clause-outside
 move_child-requires-clause-outside g t c =
     let m = c.loop-byte.invariant.moving c.requires.planned.0 c.requires.planned.1.0 c.requires.planned.1.1 in
-    whole-outside_slot m c.requires.canonical c.in-Some.ensures (top-step _ _ _ c.in-Whole.ensures.items)
+    whole-outside_slot m c.requires.canonical c.in-Some.ensures (reversed-last _ _ _ c.in-Whole.ensures.items)
 
 pub loop-byte-smaller-in-Whole : goal.loop-byte-smaller-in-Whole
 loop-byte-smaller-in-Whole g t c =
@@ -54,7 +55,7 @@ pub loop-byte-preserved-in-Whole : goal.loop-byte-preserved-in-Whole
 loop-byte-preserved-in-Whole g t c = record {
   prefix = ap g.P.Partial.bytes c.move_child.ensures.rest.3 ∙ c.loop-byte.invariant.prefix;
   moving = λ t rest h. whole-moved (c.loop-byte.invariant.moving t rest h) c.requires.canonical c.in-Some.ensures
-      (top-step _ _ _ c.in-Whole.ensures.items) _ _ c.move_child.ensures.rest.1 c.move_child.ensures.inside
+      (reversed-last _ _ _ c.in-Whole.ensures.items) _ _ c.move_child.ensures.rest.1 c.move_child.ensures.inside
       c.move_child.ensures.outside;
 }
 
@@ -65,7 +66,7 @@ pub move_to_sides-below-requires : goal.move_to_sides-below-requires
 move_to_sides-below-requires g t c κs within =
     let m = c.loop-byte.invariant.moving c.requires.planned.0 c.requires.planned.1.0 c.requires.planned.1.1 in
     let l = same-last m c.requires.canonical c.in-Some.ensures c.in-Some-seek_child_mut.ensures.value in
-    let s = below-splits m c.requires.canonical l (top-step _ _ _ c.in-Split.ensures.items) in (
+    let s = below-splits m c.requires.canonical l (reversed-last _ _ _ c.in-Split.ensures.items) in (
       omega (arith, c.decreases, last-fewer m c.requires.canonical l),
       (
         within.0,
@@ -100,7 +101,7 @@ add_sides-requires-clause-stored g t c =
     let left = rw c.in-Some-seek_child_mut.is at c.seek_child_mut.follows.holds c.move_to_sides-below.new.self in
     let m = c.loop-byte.invariant.moving c.requires.planned.0 c.requires.planned.1.0 c.requires.planned.1.1 in
     let l = same-last m c.requires.canonical c.in-Some.ensures c.in-Some-seek_child_mut.ensures.value in
-    split-stored m c.requires.canonical l (top-step _ _ _ c.in-Split.ensures.items)
+    split-stored m c.requires.canonical l (reversed-last _ _ _ c.in-Split.ensures.items)
     c.move_to_sides-below.new.self c.move_to_sides-below.result left.1 c.move_to_sides-below.ensures.prefix
     c.move_to_sides-below.ensures.sides
 
@@ -109,7 +110,7 @@ add_sides-requires-clause-makes_inside g t c =
     let left = rw c.in-Some-seek_child_mut.is at c.seek_child_mut.follows.holds c.move_to_sides-below.new.self in
     let m = c.loop-byte.invariant.moving c.requires.planned.0 c.requires.planned.1.0 c.requires.planned.1.1 in
     let l = same-last m c.requires.canonical c.in-Some.ensures c.in-Some-seek_child_mut.ensures.value in
-    split-inside_makes m c.requires.canonical l (top-step _ _ _ c.in-Split.ensures.items)
+    split-inside_makes m c.requires.canonical l (reversed-last _ _ _ c.in-Split.ensures.items)
     c.move_to_sides-below.new.self c.move_to_sides-below.result left.1 c.move_to_sides-below.ensures.prefix
     c.move_to_sides-below.ensures.sides _ c.requires.within
 
@@ -118,7 +119,7 @@ add_sides-requires-clause-makes_outside g t c =
     let left = rw c.in-Some-seek_child_mut.is at c.seek_child_mut.follows.holds c.move_to_sides-below.new.self in
     let m = c.loop-byte.invariant.moving c.requires.planned.0 c.requires.planned.1.0 c.requires.planned.1.1 in
     let l = same-last m c.requires.canonical c.in-Some.ensures c.in-Some-seek_child_mut.ensures.value in
-    split-outside_makes m c.requires.canonical l (top-step _ _ _ c.in-Split.ensures.items)
+    split-outside_makes m c.requires.canonical l (reversed-last _ _ _ c.in-Split.ensures.items)
     c.move_to_sides-below.new.self c.move_to_sides-below.result left.1 c.move_to_sides-below.ensures.prefix
     c.move_to_sides-below.ensures.sides _ c.requires.within
 
@@ -127,7 +128,7 @@ add_sides-requires-clause-inside g t c =
     let left = rw c.in-Some-seek_child_mut.is at c.seek_child_mut.follows.holds c.move_to_sides-below.new.self in
     let m = c.loop-byte.invariant.moving c.requires.planned.0 c.requires.planned.1.0 c.requires.planned.1.1 in
     let l = same-last m c.requires.canonical c.in-Some.ensures c.in-Some-seek_child_mut.ensures.value in
-    split-inside_slot m c.requires.canonical l (top-step _ _ _ c.in-Split.ensures.items)
+    split-inside_slot m c.requires.canonical l (reversed-last _ _ _ c.in-Split.ensures.items)
     c.move_to_sides-below.new.self c.move_to_sides-below.result left.1 c.move_to_sides-below.ensures.prefix
     c.move_to_sides-below.ensures.sides
 
@@ -136,7 +137,7 @@ add_sides-requires-clause-outside g t c =
     let left = rw c.in-Some-seek_child_mut.is at c.seek_child_mut.follows.holds c.move_to_sides-below.new.self in
     let m = c.loop-byte.invariant.moving c.requires.planned.0 c.requires.planned.1.0 c.requires.planned.1.1 in
     let l = same-last m c.requires.canonical c.in-Some.ensures c.in-Some-seek_child_mut.ensures.value in
-    split-outside_slot m c.requires.canonical l (top-step _ _ _ c.in-Split.ensures.items)
+    split-outside_slot m c.requires.canonical l (reversed-last _ _ _ c.in-Split.ensures.items)
     c.move_to_sides-below.new.self c.move_to_sides-below.result left.1 c.move_to_sides-below.ensures.prefix
     c.move_to_sides-below.ensures.sides
 
@@ -146,7 +147,7 @@ loop-byte-smaller g t c =
     let m = c.loop-byte.invariant.moving c.requires.planned.0 c.requires.planned.1.0 c.requires.planned.1.1 in
     let l = same-last m c.requires.canonical c.in-Some.ensures c.in-Some-seek_child_mut.ensures.value in
     shorter m c.requires.canonical l _ (c.add_sides.ensures.rest.1 ∙ split-rest m c.requires.canonical l
-    (top-step _ _ _ c.in-Split.ensures.items) c.move_to_sides-below.new.self c.move_to_sides-below.result left.1
+    (reversed-last _ _ _ c.in-Split.ensures.items) c.move_to_sides-below.new.self c.move_to_sides-below.result left.1
     c.move_to_sides-below.ensures.prefix c.move_to_sides-below.ensures.sides)
 
 pub loop-byte-preserved : goal.loop-byte-preserved
@@ -157,7 +158,7 @@ loop-byte-preserved g t c =
       moving = λ t rest h.
           let m = c.loop-byte.invariant.moving t rest h in
           let l = same-last m c.requires.canonical c.in-Some.ensures c.in-Some-seek_child_mut.ensures.value in
-          split-moved m c.requires.canonical l (top-step _ _ _ c.in-Split.ensures.items)
+          split-moved m c.requires.canonical l (reversed-last _ _ _ c.in-Split.ensures.items)
           c.move_to_sides-below.new.self c.move_to_sides-below.result left.1 c.move_to_sides-below.ensures.prefix
           c.move_to_sides-below.ensures.sides _ _ c.add_sides.ensures.rest.1 c.add_sides.ensures.inside
           c.add_sides.ensures.outside;

@@ -1,5 +1,5 @@
 use Rattle.std.proofs.Common.{arith, sym}
-use Rattle.rart_trie.proofs.splits.SideSteps.{top-step}
+use Rattle.rart_trie.proofs.build.SpineLemmas.{reversed-last}
 use Rattle.rart_trie.proofs.splits.TakenTrees.{tree-steps, tree-whole}
 use Rattle.rart_trie.proofs.node.DefaultNode.split_root.Goals as goal
 
@@ -12,8 +12,8 @@ take_last-requires g c = omega (
 
 pub returns-in-Whole-clause-taken : goal.returns-in-Whole-clause-taken
 returns-in-Whole-clause-taken g c = λ t h. sym (rw c.if-is_inside.false at
-    (tree-whole t c.in-Whole.is_inside c.args.root.now _ _ h (top-step _ _ _ c.in-Whole.ensures.items)).0)
+    (tree-whole t c.in-Whole.is_inside c.args.root.now _ _ h (reversed-last _ _ _ c.in-Whole.ensures.items)).0)
 
 pub returns-in-Whole-clause-rest : goal.returns-in-Whole-clause-rest
 returns-in-Whole-clause-rest g c = λ t h. sym (rw c.if-is_inside.false at
-    (tree-whole t c.in-Whole.is_inside c.args.root.now _ _ h (top-step _ _ _ c.in-Whole.ensures.items)).1)
+    (tree-whole t c.in-Whole.is_inside c.args.root.now _ _ h (reversed-last _ _ _ c.in-Whole.ensures.items)).1)
