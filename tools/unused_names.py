@@ -3,10 +3,10 @@
 
 usage: unused_names.py [--check]
 
-A name that only its own declaration uses counts as unused. A record or a type that a `pub` lemma returns needs its
-`pub`, as other files read its fields. Answers to goals, examples and words of specs/ are not listed: the checker reads
-the first, and people the others. The last line has both numbers. With --check the status is
-1 unless both are 0.
+A name that only its own declaration uses counts as unused. A name in the type of a `pub` lemma needs its `pub`, and so
+does a record or a type that such a lemma names, as other files read its fields. Answers to goals, examples and words of
+specs/ are not listed: the checker reads the first, and people the others. The last line has both numbers. With --check
+the status is 1 unless both are 0.
 """
 import pathlib
 import re
@@ -95,12 +95,22 @@ def names_used_elsewhere(texts):
     return used
 
 
-def is_returned(name, kinds, declared, lines):
-    """Returns whether a `pub` lemma names this record or type."""
-    if not {"record", "abbrev", "data"} & set(kinds):
-        return False
+def type_lines(name, own, lines):
+    """Returns the lines of a declaration before its first clause."""
+    begins = min(own)
+    clause = re.compile(rf" *{re.escape(name)}(?: .*)? =")
+    ends = [at for at in own if at > begins and clause.match(lines[at])]
+    return {at for at in own if at < min(ends, default=len(lines))}
+
+
+def is_named(name, kinds, declared, lines):
+    """Returns whether the type of a `pub` lemma names this one, or the lemma names this record or type."""
+    is_type = bool({"record", "abbrev", "data"} & set(kinds))
     for other, other_kinds, own in declared:
-        if other != name and "pub" in other_kinds and any(name in TOKEN.findall(lines[at]) for at in own):
+        if other == name or "pub" not in other_kinds:
+            continue
+        places = own if is_type else type_lines(other, own, lines)
+        if any(name in TOKEN.findall(lines[at]) for at in places):
             return True
     return False
 
@@ -125,7 +135,7 @@ def main(arguments):
                 continue
             if not here:
                 unused.append(place)
-            elif "pub" in kinds and not is_returned(name, kinds, declared, lines):
+            elif "pub" in kinds and not is_named(name, kinds, declared, lines):
                 needless.append(place)
     for place in unused:
         print(f"unused: {place}")

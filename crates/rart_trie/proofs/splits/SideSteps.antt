@@ -326,7 +326,7 @@ module _ {P V : Type 0} where
         a : (left ≡ below-splits.0) × AreSides (λ k. t (prefix_of u ++ k)) x made
         a = f (λ k. t (prefix_of u ++ k)) below-splits.0 below-splits.1.0
 
-        pub below-there : child_at b fs ≡ Some y
+        below-there : child_at b fs ≡ Some y
         below-there = ap (child_at b) q ∙ at-replaced b x y es last-there
 
         pub split-stored : child_at b fs ≡ None → ⊥
