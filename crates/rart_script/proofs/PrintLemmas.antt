@@ -31,7 +31,8 @@ pairs-begin {a} {b} {key} {value} {all} {rest} is from here h =
 -- a space and the next pair are printed
 pub pairs-next : (c : Option (List ℕ)) {a b d : Option (List ℕ)} {key bytes : List ℕ} {value : ℕ}
     {left rest : List (List ℕ × ℕ)} {whole : List ℕ} → left ≡ (bytes, value) ∷ rest → key ≡ bytes
-    → HasPrinted a b (further_pairs left) whole → Appends b c (32 ∷ []) → Appends c d (pair_word (key, value)) → HasPrinted a d (further_pairs rest) whole
+    → HasPrinted a b (further_pairs left) whole → Appends b c (32 ∷ []) → Appends c d (pair_word (key, value))
+    → HasPrinted a d (further_pairs rest) whole
 pairs-next c {a} {b} {d} {key} {value} {rest} {whole} is here h space more =
     let before : HasPrinted a b (32 ∷ pair_word (key, value) ++ further_pairs rest) whole
     = subst (λ l. HasPrinted a b (further_pairs l) whole) (is ∙ ap (λ k. (k, value) ∷ rest) (sym here)) h in

@@ -35,7 +35,8 @@ module _ {V : Type 0} where
       (subst (λ z. IsAscending (unit_pairs z)) keys (ascending-by-keys all up))
 
   -- one text more is read
-  pub texts-more : (all es more rest next : List (List ℕ × V)) {k : List ℕ} (t : List ℕ) {v : V} → all ≡ with_zeros es ++ rest
+  pub texts-more : (all es more rest next : List (List ℕ × V)) {k : List ℕ} (t : List ℕ) {v : V}
+      → all ≡ with_zeros es ++ rest
       → rest ≡ (k, v) ∷ next → k ≡ terminated_key t → more ≡ es ++ (t, v) ∷ [] → all ≡ with_zeros more ++ next
   texts-more all es more rest next {k} t {v} read steps closes pushed
       = sym (copied-more (with_zeros es) (with_zeros more) rest next all (k, v) (ap with_zeros pushed

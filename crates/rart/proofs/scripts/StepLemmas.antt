@@ -22,7 +22,8 @@ run-begins sure bytes map calls replies ahead e f = rw (e, f)
     (record { continues_by = λ later last h. h; many = omega arith })
 
 pub run-continues : {K V : Type 0} (reply : Reply K V) {sure : V → Type 0} {bytes : K → List ℕ}
-    {map : List (List ℕ × V)} {calls : List (Call K V)} {replies more : List (Reply K V)} {now next : List (List ℕ × V)} {call : Call K V}
+    {map : List (List ℕ × V)} {calls : List (Call K V)} {replies more : List (Reply K V)}
+    {now next : List (List ℕ × V)} {call : Call K V}
     {ahead rest : List (Call K V)} → ahead ≡ call ∷ rest → more ≡ replies ++ reply ∷ []
     → HasRun sure bytes map calls replies now ahead
     → IsStep sure bytes now call reply next → HasRun sure bytes map calls more next rest

@@ -1,5 +1,6 @@
 -- Routes that leave one after the other: some are settled, and others are to come.
-use Rattle.std.proofs.Common.{◌≡◌, ℕ, zero, suc, ◌+◌, ◌⊎◌, ⊎_elim, inl, inr, arith, Bool, List, [], ◌∷◌, ◌++◌, true, false}
+use Rattle.std.proofs.Common.{◌≡◌, ℕ, zero, suc, ◌+◌, ◌⊎◌, ⊎_elim, inl, inr, arith, Bool, List, []}
+use Rattle.std.proofs.Common.{◌∷◌, ◌++◌, true, false}
 use Rattle.std.proofs.Common.{not}
 use Rattle.std.proofs.Common.{refl, sym, ap, ◌∙◌, Option, Some, None, if◌then◌else◌, subst, length, take}
 use Rattle.std.specs.Prelude.{option_map}

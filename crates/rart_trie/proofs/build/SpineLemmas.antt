@@ -4,8 +4,8 @@ use Rattle.std.proofs.Common.{length-append, take, drop, get_or, refl, arith, sy
 use Rattle.std.proofs.Common.{subst}
 use Rattle.std.specs.Prelude.{slice_index, reverse}
 use Rattle.std.proofs.Math.Seq.{take-add, take-length}
-use Rattle.std.proofs.lemmas.List.{append_assoc, append-nil, drop-append-le, drop_all, get_or-drop, get_or-take, length-drop}
-use Rattle.std.proofs.lemmas.List.{length-take-le, map-append, reverse-append, take-append-le}
+use Rattle.std.proofs.lemmas.List.{append_assoc, append-nil, drop-append-le, drop_all, get_or-drop, get_or-take}
+use Rattle.std.proofs.lemmas.List.{length-drop, length-take-le, map-append, reverse-append, take-append-le}
 use Rattle.rart_keys.proofs.strings.ByteOrder.{is_equal, is_greater, order}
 use Rattle.rart_keys.specs.ByteStrings.{IsLess}
 use Rattle.rart_trie.specs.build.Spine.{EndsBelow, IsClosed, IsOpen, IsReached, IsShallow, IsSpine, edge_entries}
@@ -114,7 +114,8 @@ module _ {V : Type 0} where
         starts = h.1.starts;
         inside = omega (arith, s, reach);
         children = h.1.children;
-        before = subst (λ (b : ℕ). EndsBelow b (edge_entries (drop f.start ts))) (same-byte f.depth d k n s same) h.1.before;
+        before = subst (λ (b : ℕ). EndsBelow b (edge_entries (drop f.start ts)))
+            (same-byte f.depth d k n s same) h.1.before;
       },
       h.2,
       spine-moves fs (take f.start ts) (deeper f.depth d fs (omega (arith, s)) h.2) h.3,
@@ -148,7 +149,8 @@ module _ {V : Type 0} where
         ≡ pairs_of (node (take end k) v c cs)
     added-pairs d l = let e : d + (end - d) ≡ end = omega (arith, l) in
         prefix-twice (take d k) (take (end - d) (drop d k)) (own_pair v ++ children_pairs cs)
-        ∙ ap (λ q. with_prefix q (own_pair v ++ children_pairs cs)) (sym (take-add d (end - d) k) ∙ ap (λ z. take z k) e)
+        ∙ ap (λ q. with_prefix q (own_pair v ++ children_pairs cs))
+        (sym (take-add d (end - d) k) ∙ ap (λ z. take z k) e)
 
     pub one-more : (f : Frame V) (ts us : List (Trie V)) → f.depth < end → IsOpen k f ts
         → us ≡ ts ++ finished k f.depth end v c cs ∷ []
@@ -158,7 +160,8 @@ module _ {V : Type 0} where
         let part = take (end - d) (drop d k) in
         let t = finished k d end v c cs in
         let old = drop f.start ts in
-        let long : length part ≡ end - d = length-take-le (end - d) (drop d k) (omega (arith, reach, length-drop d k)) in
+        let long : length part ≡ end - d
+        = length-take-le (end - d) (drop d k) (omega (arith, reach, length-drop d k)) in
         let byte : slice_index part 0 ≡ slice_index k d
         = get_or-take (end - d) (drop d k) 0 0 (omega (arith, l)) ∙ byte-of d k in
         let new : drop f.start us ≡ old ++ t ∷ []
@@ -185,10 +188,12 @@ module _ {V : Type 0} where
           children = rw entries up;
           below = λ b less. rw entries (all b less);
           pairs = ap (λ z. with_prefix (take d k) (own_pair f.value ++ children_pairs (as_children z))) entries
-              ∙ ap (λ z. with_prefix (take d k) (own_pair f.value ++ z)) (pairs-more (slice_index part 0) t (edge_entries old))
+              ∙ ap (λ z. with_prefix (take d k) (own_pair f.value ++ z))
+              (pairs-more (slice_index part 0) t (edge_entries old))
               ∙ ap (with_prefix (take d k)) (sym (append_assoc (own_pair f.value)
               (children_pairs (as_children (edge_entries old))) (pairs_of t)))
-              ∙ prefix-append (take d k) (own_pair f.value ++ children_pairs (as_children (edge_entries old))) (pairs_of t)
+              ∙ prefix-append (take d k) (own_pair f.value ++ children_pairs (as_children (edge_entries old)))
+              (pairs_of t)
               ∙ ap (λ z. frame_pairs k f old ++ z) (added-pairs d (omega (arith, l)));
         }
 
@@ -248,7 +253,8 @@ module _ {V : Type 0} where
               spine-moves d k n same reach' fs (take f.start us) s' rest,
             ),
             ap₂ ◌++◌ (pairs-move d k n same reach' fs (take f.start us) s' rest) (own ∙ m.pairs)
-                ∙ ap (λ z. spine_pairs k fs z ++ (frame_pairs k f (drop f.start ts) ++ pairs_of (node (take end k) v c cs))) m.before
+                ∙ ap (λ z. spine_pairs k fs z
+                ++ (frame_pairs k f (drop f.start ts) ++ pairs_of (node (take end k) v c cs))) m.before
                 ∙ sym (append_assoc (spine_pairs k fs (take f.start ts)) (frame_pairs k f (drop f.start ts))
                 (pairs_of (node (take end k) v c cs))) ∙ pairs,
           )
@@ -295,7 +301,8 @@ module _ {V : Type 0} where
           s,
           rw all (spine-moves (length k) k n same reach fs ts s h),
         ),
-        ap₂ (λ y z. spine_pairs n fs y ++ with_prefix (take (length k) n) (([], v) ∷ children_pairs (as_children (edge_entries z))))
+        ap₂ (λ y z. spine_pairs n fs y
+            ++ with_prefix (take (length k) n) (([], v) ∷ children_pairs (as_children (edge_entries z))))
             all none
             ∙ ap₂ ◌++◌ (pairs-move (length k) k n same reach fs ts s h)
             (ap (λ q. (q, v) ∷ []) (append-nil (take (length k) n) ∙ path)),

@@ -61,11 +61,13 @@ module _ {V : Type 0} (k : List ℕ) where
 
     -- it is finished
     pub frame-closed : (ws : List (Trie V)) (v' : Option V) (c' : ℕ) (cs' : Children V) → ws ≡ take f.start us
-        → v' ≡ f.value → c' ≡ capacity_of (length (drop f.start us)) → cs' ≡ as_children (edge_entries (drop f.start us))
+        → v' ≡ f.value → c' ≡ capacity_of (length (drop f.start us))
+        → cs' ≡ as_children (edge_entries (drop f.start us))
         → IsClosed k (reverse hs) ws f.depth (node [] v' c' cs') all
     frame-closed ws v' c' cs' ew ev ec es = rw (ew, ev, ec, es) (closed-more k small end h.reach v c cs h.canonical f
         (reverse hs) ts us all spine-now (frame-inside hs gs f ts end (node [] v c cs) all h popped).0
-        (ap (λ fs. spine_pairs k fs ts ++ pairs_of (node (take end k) v c cs)) (sym (reversed-last hs gs f popped)) ∙ h.pairs)
+        (ap (λ fs. spine_pairs k fs ts ++ pairs_of (node (take end k) v c cs))
+        (sym (reversed-last hs gs f popped)) ∙ h.pairs)
         waits)
 
   -- the next key goes on at the depth d
@@ -77,7 +79,8 @@ module _ {V : Type 0} (k : List ℕ) where
   key-leaves small n d end fs gs ts us v c cs all less common low h r e =
       let p = parts k n d less common in
       let inside : d < length k = omega (arith, low, h.reach) in
-      goes-on k small end h.reach v c cs h.canonical n d common.same (p.1 inside) p.0 (omega (arith, low)) fs gs ts us all
+      goes-on k small end h.reach v c cs h.canonical n d common.same (p.1 inside) p.0 (omega (arith, low))
+      fs gs ts us all
       h.spine r h.pairs e
 
 -- a key that begins the next one, where the call is Ok

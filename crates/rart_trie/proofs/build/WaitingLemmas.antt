@@ -92,7 +92,8 @@ module _ {V : Type 0} (start : ℕ) (all : List (Trie V)) where
       length-take-le start all starts,
     ))
     next-of now new es t done (x ∷ rest) whole waits made more taken =
-        let last : t ∷ reverse new ≡ x ∷ rest ++ reverse (take start all) = sym (reversed-last new now t taken) ∙ waits in
+        let last : t ∷ reverse new ≡ x ∷ rest ++ reverse (take start all)
+        = sym (reversed-last new now t taken) ∙ waits in
         let same : x ≡ t = cc in
         let left : reverse new ≡ rest ++ reverse (take start all) = cc in
         let b = slice_index (prefix_of t) 0 in

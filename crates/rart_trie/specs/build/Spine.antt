@@ -1,6 +1,6 @@
 -- The unfinished nodes on the path to the last of some ascending keys, and the finished children of each.
-use Rattle.std.specs.Prelude.{ℕ, ◌≡◌, ◌<◌, ◌≤◌, ◌⊎◌, List, [], ◌∷◌, ◌++◌, map, length, take, drop, reverse, None, IsSome}
-use Rattle.std.specs.Prelude.{slice_index}
+use Rattle.std.specs.Prelude.{ℕ, ◌≡◌, ◌<◌, ◌≤◌, ◌⊎◌, List, [], ◌∷◌, ◌++◌, map, length, take, drop, reverse}
+use Rattle.std.specs.Prelude.{IsSome, None, slice_index}
 use Rattle.rart_trie.specs.declared.node.edits.builder.Builder.{Builder}
 use Rattle.rart_trie.specs.declared.node.edits.builder.Frame.{Frame}
 use Rattle.rart_trie.specs.tries.Trie.{Trie, AreCanonical, IsCanonical, children_pairs, own_pair, pairs_of, prefix_of}

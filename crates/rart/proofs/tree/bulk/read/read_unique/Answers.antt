@@ -16,8 +16,9 @@ append-requires g c =
     c.loop-key.key-iterator (c.in-Some.key, c.in-Some.value) c.next.new.self c.loop-key.yielded_by
     (rw c.in-Some.is at c.next.ensures.steps)) in
     record {
-      later = rw c.loop-key.invariant.pairs (last-below (keys_of (pairs_in bytes c.loop-key.yielded)) (bytes c.in-Some.key)
-          [] (rw (← keys-at-end (pairs_in bytes c.loop-key.yielded) (bytes c.in-Some.key) c.in-Some.value)
+      later = rw c.loop-key.invariant.pairs (last-below (keys_of (pairs_in bytes c.loop-key.yielded))
+          (bytes c.in-Some.key) []
+          (rw (← keys-at-end (pairs_in bytes c.loop-key.yielded) (bytes c.in-Some.key) c.in-Some.value)
           (ascending-by-keys _ (rw (pairs-more bytes c.loop-key.yielded (c.in-Some.key, c.in-Some.value)) at all))));
     }
 
@@ -34,5 +35,6 @@ loop-key-preserved g c = record {
   can = search rules;
   finite = (rw c.in-Some.is at (c.next.ensures.goes.on c.loop-key.invariant.finite)).1;
   pairs = c.in_default.ensures.pairs ∙ ap (λ z. z ++ (g.K.KeyTrait.bytes c.in-Some.key, c.in-Some.value) ∷ [])
-      c.loop-key.invariant.pairs ∙ sym (pairs-more g.K.KeyTrait.bytes c.loop-key.yielded (c.in-Some.key, c.in-Some.value));
+      c.loop-key.invariant.pairs
+      ∙ sym (pairs-more g.K.KeyTrait.bytes c.loop-key.yielded (c.in-Some.key, c.in-Some.value));
 }

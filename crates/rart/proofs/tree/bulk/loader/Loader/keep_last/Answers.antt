@@ -8,7 +8,8 @@ returns-in-Equal-clause-keeps_item g c es l = replaced es c.args.self.now _ _ l 
 
 pub returns-in-Less-clause-keeps_item : goal.returns-in-Less-clause-keeps_item
 returns-in-Less-clause-keeps_item g c es l = on_ok_weaker c.append.result
-    (λ e. rw e (appended es c.args.self.now _ _ l c.one_item_more.ensures.later c.in-Less.ensures)) c.append.ensures.pairs
+    (λ e. rw e (appended es c.args.self.now _ _ l c.one_item_more.ensures.later c.in-Less.ensures))
+    c.append.ensures.pairs
 
 pub returns-in-Less-clause-refused : goal.returns-in-Less-clause-refused
 returns-in-Less-clause-refused g c es l a = IfErr-weaker c.append.result _ _
