@@ -3,9 +3,10 @@
 // At a node a walk continues with what the part has of the keys after the node's prefix, and at a child with what it
 // has of those that begin with the child's byte. So no byte of the path is needed to decide which children are visited.
 
-ghost use Rattle.std.specs.Prelude.{ℕ, IfSome, List, ◌≡◌, ◌&&◌, ◌++◌, [], option_map, slice_get};
+ghost use Rattle.std.specs.Prelude.{ℕ, IfSome, List, Some, ◌≡◌, ◌&&◌, ◌++◌, [], false, option_map, slice_get, true};
 ghost use Rattle.rart_keys.specs.ByteStrings.{begins};
 ghost use Rattle.rart_keys.specs.Ranges.{is_from, is_to};
+ghost use Rattle.rart_trie.specs.declared.node.part.Part.TheVariants.{All, Nothing};
 ghost use Rattle.rart_trie.specs.ranges.LentBounds.{lent_bound};
 ghost use Rattle.rart_trie.specs.ranges.Parts.{byte_within, is_above_first, is_in_part, is_past, part_low};
 ghost use Rattle.rart_trie.specs.ranges.Starts.{entries_after};
@@ -143,7 +144,9 @@ impl<'k> Part<'k> {
 
     /// Returns `true` if the part is all keys, `false` if it is no key, and `None` if it is named otherwise.
     pub(crate) fn holds_all(self) -> Option<bool>
-        ensures { IfSome result (λ h. (k : List ℕ) → is_in_part self.entry k ≡ h) }
+        ensures holds { IfSome result (λ h. (k : List ℕ) → is_in_part self.entry k ≡ h) }
+        ensures all { self.entry ≡ All → result ≡ Some true }
+        ensures nothing { self.entry ≡ Nothing → result ≡ Some false }
     {
         match self {
             Part::All => Some(true),

@@ -146,7 +146,7 @@ fn add_child<P: Partial, V>(storage: &mut Bare<P, V>, byte: u8, child: Option<De
 }
 
 /// Moves the child at a byte to one side.
-// Not inline: the recursion that calls it holds no node on the stack.
+// Not inline: so a level of the recursion that calls it takes less of the stack.
 #[inline(never)]
 fn move_child<P: Partial, V: Drop>(
     storage: &mut Storage<P, V, DefaultNode<P, V>>,
@@ -187,7 +187,7 @@ fn node_of_side<P: Partial, V: Drop>(prefix: &P, storage: Bare<P, V>) -> Option<
 }
 
 /// Replaces the child at a byte, whose sides are `below`, by a child of each side that has a pair.
-// Not inline: the recursion that calls it holds no node on the stack.
+// Not inline: so a level of the recursion that calls it takes less of the stack.
 #[inline(never)]
 fn add_sides<P: Partial, V: Drop>(
     storage: &mut Storage<P, V, DefaultNode<P, V>>,
@@ -223,7 +223,7 @@ fn add_sides<P: Partial, V: Drop>(
 }
 
 /// Moves the value of a node to its side.
-// Not inline: the recursion that calls it holds no value on the stack.
+// Not inline: so a level of the recursion that calls it takes less of the stack.
 #[inline(never)]
 fn with_own<P: Partial, V: Drop>(
     storage: &mut Storage<P, V, DefaultNode<P, V>>,
@@ -298,6 +298,7 @@ impl<P: Partial, V: Drop> DefaultNode<P, V> {
     }
 
     /// Moves the value and the children of the node to its sides, as the steps of a plan say.
+    // A level holds three pairs of sides, each of which has room for a value.
     pub(super) fn move_to_sides(
         &mut self,
         steps: &mut Vec<Step<P, V>>,

@@ -11,11 +11,11 @@ use Rattle.rart_trie.proofs.node.DefaultNode.+plan.Goals as goal
 pub returns-in-Some-clause-planned : goal.returns-in-Some-clause-planned
 returns-in-Some-clause-planned g t c = on_ok_weaker c.plan_whole.result
     (λ e. planned-whole (is_in_part c.args.part) c.in-Some.is_inside c.args.self.now _ _ c.requires.canonical
-    c.in-Some.ensures e) c.plan_whole.ensures.pushed
+    c.in-Some.ensures.holds e) c.plan_whole.ensures.pushed
 
 pub returns-in-Some-clause-found : goal.returns-in-Some-clause-found
 returns-in-Some-clause-found g t c = found-whole (is_in_part c.args.part) c.in-Some.is_inside c.args.self.now
-    c.plan_whole.result c.requires.canonical c.in-Some.ensures c.plan_whole.ensures.inside
+    c.plan_whole.result c.requires.canonical c.in-Some.ensures.holds c.plan_whole.ensures.inside
     c.plan_whole.ensures.outside
 
 pub loop-byte-init : goal.loop-byte-init
