@@ -12,12 +12,12 @@ import tempfile
 # Key type, seed, calls, and one of how many calls has a request refused; then the least number of pairs of the largest
 # tree, and of edits of a tree that are refused.
 CASES = (
-    (32, 101, 60_000, 15, 480, 50),
-    (8, 102, 60_000, 15, 200, 50),
-    (16, 104, 60_000, 15, 100, 50),
-    (32, 107, 60_000, 15, 3_800, 50),
-    (8, 115, 60_000, 15, 3_700, 50),
-    (16, 123, 60_000, 15, 3_700, 50),
+    (32, 101, 60_000, 15, 380, 50),
+    (8, 102, 60_000, 15, 190, 50),
+    (16, 104, 60_000, 15, 85, 50),
+    (32, 107, 60_000, 15, 3_300, 50),
+    (8, 115, 60_000, 15, 3_600, 50),
+    (16, 123, 60_000, 15, 2_700, 50),
 )
 
 # What a case that passes says.

@@ -22,7 +22,7 @@ pub struct Call {
 }
 
 /// How many kinds of calls there are.
-pub const KINDS: u64 = 47;
+pub const KINDS: u64 = 48;
 
 /// Whether the call makes a tree of a list.
 pub fn takes_a_list(call: &Call) -> bool {
@@ -34,9 +34,14 @@ pub fn makes_a_tree(call: &Call) -> bool {
     takes_a_list(call) || call.kind == 46
 }
 
+/// Whether it edits the pairs of a part of a tree.
+pub fn edits_a_part(call: &Call) -> bool {
+    call.kind == 47
+}
+
 /// Whether it edits a tree.
 pub fn is_edit(call: &Call) -> bool {
-    call.kind < 9 || call.kind == 41
+    call.kind < 9 || call.kind == 41 || edits_a_part(call)
 }
 
 // What is done mostly while a tree grows, shrinks, and in between.

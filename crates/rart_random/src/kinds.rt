@@ -3,6 +3,7 @@ pub mod edits;
 pub mod grown;
 pub mod loads;
 pub mod owned;
+pub mod parts;
 pub mod reads;
 pub mod retains;
 pub mod turns;

@@ -133,6 +133,18 @@ impl Model {
         self.pairs.truncate(len);
     }
 
+    /// Removes the pairs from a place to another.
+    pub fn remove_span(&mut self, from: usize, to: usize) {
+        let mut kept = from;
+        for place in to..self.len() {
+            if let Some(pair) = self.at(place) {
+                self.set(kept, pair);
+                kept = kept.wrapping_add(1);
+            }
+        }
+        self.cut(kept);
+    }
+
     /// Removes all pairs, and returns how many there were.
     pub fn clear(&mut self) -> u64 {
         let count = self.pairs.len();

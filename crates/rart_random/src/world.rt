@@ -1,5 +1,5 @@
 //! Two trees and a route table, each beside its model, and one call made on both.
-use crate::call::{Call, is_edit, takes_a_list};
+use crate::call::{Call, edits_a_part, is_edit, takes_a_list};
 use crate::kinds::grown::{grow, wanted_grow};
 use crate::kinds::loads::{list_of, load, wanted_load};
 use crate::kinds::owned::{owned, wanted_owned};
@@ -113,11 +113,15 @@ fn wanted_read(one: &Model, other: &Model, words: &Words, call: &Call) -> u64 {
     }
 }
 
-fn note_refusal<K: KeyTrait + Drop>(side: &mut Side<K>, key: &Text, call: &Call) -> bool {
+fn note_refusal<K: KeyTrait + Drop>(side: &mut Side<K>, words: &Words, call: &Call) -> bool {
     if call.kind == 41 {
-        return kinds::retains::note_refusal(&side.tree, &mut side.model, call);
+        let len = side.model.len();
+        return kinds::retains::note_refusal(&side.tree, &mut side.model, 0, len, call);
     }
-    model::edits::note_refusal(&mut side.model, key, call);
+    if edits_a_part(call) {
+        return kinds::parts::note_refused(side, &words.key, &words.end, call);
+    }
+    model::edits::note_refusal(&mut side.model, &words.key, call);
     true
 }
 
@@ -201,6 +205,8 @@ impl<K: KeyTrait + Drop> World<K> {
             32 | 33 => load::<K>(self.alloc, list),
             40 => grow::<K>(self.alloc, list, call),
             34..40 => call_table(&mut self.routes, key, &words.probe, call),
+            47 if call.on_second => kinds::parts::edit(&mut self.second.tree, key, end, call),
+            47 => kinds::parts::edit(&mut self.first.tree, key, end, call),
             _ if call.on_second => read(&self.second, &self.first, key, end, words, call),
             _ => read(&self.first, &self.second, key, end, words, call),
         }
@@ -225,6 +231,10 @@ impl<K: KeyTrait + Drop> World<K> {
             32 | 33 => wanted_load(self.alloc, list),
             40 => wanted_grow(self.alloc, list, call),
             34..40 => wanted_of_table(&mut self.route_model, &words.key, &words.probe, call),
+            47 if call.on_second => {
+                kinds::parts::wanted(&mut self.second.model, &words.key, &words.end, call)
+            }
+            47 => kinds::parts::wanted(&mut self.first.model, &words.key, &words.end, call),
             _ if call.on_second => wanted_read(&self.second.model, &self.first.model, words, call),
             _ => wanted_read(&self.first.model, &self.second.model, words, call),
         }
@@ -234,9 +244,9 @@ impl<K: KeyTrait + Drop> World<K> {
     // the value that was written, and a refused `retain` what it did before.
     fn note_refusal(&mut self, words: &Words, call: &Call) -> bool {
         if call.on_second {
-            note_refusal(&mut self.second, &words.key, call)
+            note_refusal(&mut self.second, words, call)
         } else {
-            note_refusal(&mut self.first, &words.key, call)
+            note_refusal(&mut self.first, words, call)
         }
     }
 

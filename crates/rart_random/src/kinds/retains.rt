@@ -6,6 +6,7 @@ use crate::numbers::{low_byte, mix_pair};
 use crate::sides::{Tree, key_of};
 use crate::text::Text;
 use rart::{KeyTrait, TreeError};
+use std::ops::Bound;
 
 /// Which pairs are kept, and what is written over their values. A pair is rejected if a byte of its key and its value
 /// have the bits of the rule.
@@ -20,7 +21,7 @@ struct Rule {
 }
 
 /// The most pairs of a tree of which many may be removed: a larger one shall grow.
-const FEW: usize = 400;
+pub const FEW: usize = 400;
 
 fn byte_mask(choice: u64) -> u8 {
     match choice % 4 {
@@ -97,14 +98,48 @@ pub fn retain<K: KeyTrait + Drop>(tree: &mut Tree<K>, call: &Call) -> Option<u64
     answered(answer, sum)
 }
 
-/// What the retention is to be, by the model.
-pub fn wanted_retain(model: &mut Model, call: &Call) -> u64 {
+/// The sum of the pairs below a prefix that the callback was called with.
+pub fn retain_below<K: KeyTrait + Drop>(
+    tree: &mut Tree<K>,
+    prefix: &K,
+    call: &Call,
+) -> Option<u64> {
+    let rule = Rule::new(call, tree.len());
+    let mut sum = 1_u64;
+    let answer = tree.prefix_retain_k(prefix, |key: &[u8], value: &mut u64| {
+        sum = mix_pair(sum, key, *value);
+        rule.call(key, value)
+    });
+    answered(answer, sum)
+}
+
+/// The sum of the pairs within bounds that the callback was called with.
+pub fn retain_between<K: KeyTrait + Drop>(
+    tree: &mut Tree<K>,
+    start: Bound<K>,
+    end: Bound<K>,
+    call: &Call,
+) -> Option<u64> {
+    let rule = Rule::new(call, tree.len());
+    let mut sum = 1_u64;
+    let answer = tree.range_retain(start, end, |key: &[u8], value: &mut u64| {
+        sum = mix_pair(sum, key, *value);
+        rule.call(key, value)
+    });
+    answered(answer, sum)
+}
+
+/// What the retention of the pairs from a place to another is to be, by the model.
+pub fn wanted_retain(model: &mut Model, from: usize, to: usize, call: &Call) -> u64 {
     let rule = Rule::new(call, model.len());
-    let sum = model.sum(0, model.len(), true);
+    let sum = model.sum(from, to, true);
     let mut kept = 0_usize;
     for place in 0..model.len() {
         if let Some((key, value)) = model.at(place) {
-            if rule.keeps(key.as_slice(), value) {
+            if place < from || place >= to {
+                model.set(kept, (key, value));
+                kept = kept.wrapping_add(1);
+            } else if rule.keeps(key.as_slice(), value) {
                 model.set(kept, (key, rule.written(value)));
                 kept = kept.wrapping_add(1);
             }
@@ -165,9 +200,15 @@ fn found<K: KeyTrait + Drop>(tree: &Tree<K>, text: &Text) -> Option<u64> {
     tree.get_k(&key).copied()
 }
 
-/// Leaves in the model what a refused call left in the tree, and returns whether that is a walk which ended at one
-/// refused removal.
-pub fn note_refusal<K: KeyTrait + Drop>(tree: &Tree<K>, model: &mut Model, call: &Call) -> bool {
+/// Leaves in the model what a refused call on the pairs from a place to another left in the tree, and returns whether
+/// that is a walk which ended at one refused removal.
+pub fn note_refusal<K: KeyTrait + Drop>(
+    tree: &Tree<K>,
+    model: &mut Model,
+    from: usize,
+    to: usize,
+    call: &Call,
+) -> bool {
     let rule = Rule::new(call, model.len());
     let mut ended = Retained {
         refused: None,
@@ -178,7 +219,11 @@ pub fn note_refusal<K: KeyTrait + Drop>(tree: &Tree<K>, model: &mut Model, call:
     for place in 0..model.len() {
         if let Some(pair) = model.at(place) {
             let left = found(tree, &pair.0);
-            ended.note(&rule, &pair, left);
+            if place < from || place >= to {
+                ended.is_right = ended.is_right && left == Some(pair.1);
+            } else {
+                ended.note(&rule, &pair, left);
+            }
             if let Some(value) = left {
                 model.set(kept, (pair.0, value));
                 kept = kept.wrapping_add(1);

@@ -106,6 +106,11 @@ pub fn pop(model: &mut Model, place: usize) -> u64 {
     }
 }
 
+fn retain(model: &mut Model, call: &Call) -> u64 {
+    let len = model.len();
+    wanted_retain(model, 0, len, call)
+}
+
 /// Makes the edit that the call names.
 pub fn edit(model: &mut Model, key: &Text, call: &Call) -> u64 {
     match call.kind {
@@ -122,7 +127,7 @@ pub fn edit(model: &mut Model, key: &Text, call: &Call) -> u64 {
         6 if writes_below(call) => overwrite_below(model, key, call.value),
         6 => overwrite(model, key, call.value),
         7 => update(model, key, call),
-        41 => wanted_retain(model, call),
+        41 => retain(model, call),
         _ => try_update(model, key, call),
     }
 }

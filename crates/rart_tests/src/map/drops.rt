@@ -2,6 +2,7 @@
 
 mod held;
 mod prefixes;
+mod ranges;
 
 use rart::{
     AdaptiveRadixTree, ArrayKey, KeyTrait, NotInserted, Refused, TreeError, TryInsertError,

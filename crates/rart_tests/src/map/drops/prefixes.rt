@@ -7,8 +7,8 @@ use rart_test_tools::refusals::{is_swept, refuse, was_refused};
 use std::alloc::Global;
 use std::cell::Cell;
 
-// The keys of each row's tree, one value for each.
-static KEYS: [&str; 7] = ["a", "ab", "abc", "abd", "b", "bcd", "bce"];
+/// The keys of each row's tree, one value for each.
+pub static KEYS: [&str; 7] = ["a", "ab", "abc", "abd", "b", "bcd", "bce"];
 
 #[derive(Clone, Copy)]
 enum Call {
@@ -108,7 +108,8 @@ fn key_of(text: &str) -> ArrayKey<4> {
     ArrayKey::new_from_slice(&bytes[..bytes.len().min(4)])
 }
 
-fn filled_with_keys<'a>(alloc: Global, drops: &'a Cell<usize>) -> Tree<'a> {
+/// A tree of these keys.
+pub fn filled_with_keys<'a>(alloc: Global, drops: &'a Cell<usize>) -> Tree<'a> {
     let mut tree = Tree::new(alloc);
     for text in &KEYS {
         let _old = tree.insert(key_of(text), Counted(0, drops));
