@@ -1,4 +1,3 @@
-pub mod Equality
 pub mod IpLoans
 pub mod IpNets
 pub mod ManyEdits

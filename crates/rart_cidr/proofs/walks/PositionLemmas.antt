@@ -1,6 +1,8 @@
 -- A walk over the routes: those before the network that it is at, and those from it on.
 use Rattle.std.proofs.Common.{◌≡◌, ℕ, ◌<◌, arith, length, List, [], ◌∷◌, ◌++◌, false, true, refl, sym, ap, subst, ◌∙◌}
 use Rattle.std.proofs.Common.{Option, Some, None}
+use Rattle.std.specs.Borrow.{Bor}
+use Rattle.std.specs.Prelude.{option_map, slice_get}
 use Rattle.std.proofs.lemmas.List.{append-nil, append_assoc}
 use Rattle.rart_keys.specs.Ranges.{pairs_from}
 use Rattle.rart_keys.specs.SortedMap.{IsAscending, lookup, put}
@@ -82,3 +84,75 @@ module _ {T : Type 0} where
   split-put n t w [] rest a = rw (cmp-itself n) refl
   split-put n t w (e ∷ done) rest a = rw (below-greater e.0 n (above-last e.0 n t done rest a.0))
       (ap (λ z. e ∷ z) (split-put n t w done rest a.1))
+
+  -- a route as contracts see it, if there is one
+  abbrev pub at_route : {N : Type 0} → (N → List ℕ) → Option (N × Bor T) → Option (List ℕ × T)
+  at_route bits = option_map (λ p. (bits p.0, p.1.now))
+
+  -- some routes are before the one that the walk is at, which is the first of the others
+  pub record IsSplitAt (cur : List (List ℕ × T)) (at : Option (List ℕ × T)) (done todo : List (List ℕ × T)) : Type 0
+    where
+      pub routes : cur ≡ done ++ todo
+      pub first : at ≡ slice_get todo 0
+
+  -- the walk is at the route e: the routes after it
+  pub record IsAtPair (cur : List (List ℕ × T)) (e : List ℕ × T) (done todo : List (List ℕ × T)) : Type 0 where
+    pub rest : List (List ℕ × T)
+    pub here : todo ≡ e ∷ rest
+    pub routes : cur ≡ done ++ e ∷ rest
+    pub ascends : IsAscending (done ++ e ∷ rest)
+    pub stored : lookup e.0 cur ≡ Some e.1
+
+  -- the routes from one on, or none
+  abbrev pub routes_at : Option (List ℕ × T) → List (List ℕ × T) → List (List ℕ × T)
+  routes_at at cur = routes_from (option_map (λ e. e.0) at) cur
+
+  pub split-start : (cur : List (List ℕ × T)) (at : Option (List ℕ × T)) → at ≡ slice_get cur 0
+      → IsSplitAt cur at [] cur
+  split-start cur at h = record { routes = refl; first = h }
+
+  pub no-pair : (es : List (List ℕ × T)) → None ≡ slice_get es 0 → es ≡ []
+  no-pair es h = no-first es (ap (option_map (λ e. e.0)) h)
+
+  first-pair : {e : List ℕ × T} (es : List (List ℕ × T)) → Some e ≡ slice_get es 0
+      → (rest : List (List ℕ × T)) × (es ≡ e ∷ rest)
+  first-pair [] h = absurd (let x = h in cc)
+  first-pair {e} (d ∷ es) h = let same : e ≡ d = (let x = h in cc) in (es, ap (λ z. z ∷ es) (sym same))
+
+  pub at-pair : {cur done todo : List (List ℕ × T)} {e : List ℕ × T} → IsAscending cur
+      → IsSplitAt cur (Some e) done todo → IsAtPair cur e done todo
+  at-pair {cur} {done} {todo} {e} a s = let f = first-pair todo s.first in
+      let here : cur ≡ done ++ e ∷ f.0 = s.routes ∙ ap (λ z. done ++ z) f.1 in
+      let up : IsAscending (done ++ e ∷ f.0) = subst IsAscending here a in record {
+        rest = f.0;
+        here = f.1;
+        routes = here;
+        ascends = up;
+        stored = ap (lookup e.0) here ∙ split-lookup e.0 e.1 done f.0 up;
+      }
+
+  -- the walk goes to the next route
+  pub after-pair : {cur done todo : List (List ℕ × T)} {e : List ℕ × T} {at : Option (List ℕ × T)}
+      → (r : IsAtPair cur e done todo) → at ≡ slice_get (pairs_from false e.0 cur) 0
+      → IsSplitAt cur at (done ++ e ∷ []) r.rest
+  after-pair {cur} {done} {todo} {e} {at} r h = record {
+    routes = r.routes ∙ sym (append_assoc done (e ∷ []) r.rest);
+    first = h ∙ ap (λ z. slice_get (pairs_from false e.0 z) 0) r.routes
+        ∙ ap (λ z. slice_get z 0) (split-after e.0 e.1 done r.rest r.ascends);
+  }
+
+  pub ascends-last : (done todo : List (List ℕ × T)) → IsAscending (done ++ todo) → IsAscending todo
+  ascends-last [] todo a = a
+  ascends-last (e ∷ done) todo a = ascends-last done todo a.1
+
+  pub routes-left : {cur done todo : List (List ℕ × T)} {at : Option (List ℕ × T)} → IsAscending cur
+      → IsSplitAt cur at done todo → routes_at at cur ≡ todo
+  routes-left {cur} {done} {todo} {at} a s = todo-is cur done todo (option_map (λ e. e.0) at) a
+      (record { routes = s.routes; first = ap (option_map (λ e. e.0)) s.first })
+
+  -- fewer routes are left
+  pub fewer-after : {cur done todo kept : List (List ℕ × T)} {e : List ℕ × T} {at : Option (List ℕ × T)}
+      → IsAscending cur → IsSplitAt cur (Some e) done todo → (r : IsAtPair cur e done todo)
+      → IsSplitAt cur at kept r.rest → length (routes_at at cur) < length (routes_at (Some e) cur)
+  fewer-after a s r t = let one = ap length (routes-left a t) in let two = ap length (routes-left a s ∙ r.here) in
+      omega (arith, one, two)

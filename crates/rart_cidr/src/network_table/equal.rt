@@ -1,8 +1,6 @@
 //! Equality of two tables: they are equal exactly where their routes are.
-ghost use Rattle.std.specs.Prelude.{◌≡◌, nat_eq};
+ghost use Rattle.std.specs.Prelude.{◌≡◌, ◌&&◌, nat_eq};
 ghost use Rattle.std.specs.Cmp.Lexicographic.{pointwise};
-ghost use Rattle.rart_keys.specs.SortedMap.{lookup};
-ghost use Rattle.rart_cidr.specs.tables.Equality.{AreSameRoutes};
 
 use crate::cidr::Network;
 use crate::network_table::NetworkTable;
@@ -14,21 +12,16 @@ fn is_same_net<N: Network>(net: &N, other: &N) -> bool
     net.len() == other.len() && net.contains_net(other)
 }
 
-impl<N: Network, T: PartialEq> NetworkTable<N, T> {
-    // Returns whether the route of `net` equals that of `there` in the other table. Both must be stored.
-    fn has_same_route(&self, net: &N, other: &Self, there: &N) -> bool
-        ensures { AreSameRoutes T.eq (N.bits net.now) (lookup (N.bits net.now) self.now)
-            (N.bits there.now) (lookup (N.bits there.now) other.now) result }
-    {
-        match (self.get(net), other.get(there)) {
-            (Some(target), Some(other)) => is_same_net(net, there) && target == other,
-            _ => false,
-        }
-    }
+// Returns whether two routes are equal.
+fn is_same_route<N: Network, T: PartialEq>(route: &(N, &T), other: &(N, &T)) -> bool
+    ensures { result ≡ (pointwise nat_eq (N.bits route.now.0) (N.bits other.now.0)
+        && T.eq route.now.1.now other.now.1.now) }
+{
+    is_same_net(&route.0, &other.0) && route.1 == other.1
 }
 
 /// Tables are equal if their routes are: equal networks, and targets equal by the `==` of `T`. It compares their
-/// numbers of routes, then looks up each route of both, up to the first that differs. It does not allocate.
+/// numbers of routes, then looks up each route of both once, up to the first that differs. It does not allocate.
 impl<N: Network, T: PartialEq> PartialEq for NetworkTable<N, T> {
     ghost use Rattle.std.specs.Prelude.{nat_eq};
     ghost use Rattle.std.specs.Cmp.{and_per, on_per, partial_equiv_from_equiv};
@@ -47,17 +40,17 @@ impl<N: Network, T: PartialEq> PartialEq for NetworkTable<N, T> {
         }
         self.ascends();
         other.ascends();
-        let mut at = self.first_net();
-        let mut there = other.first_net();
-        while let Some(net) = at {
-            let Some(net_there) = there else {
+        let mut at = self.first();
+        let mut there = other.first();
+        while let Some(route) = at {
+            let Some(route_there) = there else {
                 return false;
             };
-            if !self.has_same_route(&net, other, &net_there) {
+            if !is_same_route(&route, &route_there) {
                 return false;
             }
-            at = self.net_after(&net);
-            there = other.net_after(&net_there);
+            at = self.first_after(&route.0);
+            there = other.first_after(&route_there.0);
         }
         there.is_none()
     }
