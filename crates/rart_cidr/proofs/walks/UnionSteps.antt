@@ -1,145 +1,195 @@
 -- A walk over the networks that one of two tables has, or both: the next one is the lesser of both tables' next ones.
-use Rattle.std.proofs.Common.{◌≡◌, ℕ, ◌<◌, length, Bool, List, [], ◌∷◌, ◌++◌, true, false, refl, sym, ap, subst, ◌∙◌}
-use Rattle.std.proofs.Common.{Option, Some, None, if◌then◌else◌, Less, Equal, Greater}
+use Rattle.std.proofs.Common.{◌≡◌, ℕ, ◌+◌, ◌<◌, length, Bool, List, [], ◌∷◌, ◌++◌, true, false, refl, sym, ap, subst}
+use Rattle.std.proofs.Common.{◌∙◌, arith, Option, Some, None, Less, Equal, Greater}
+use Rattle.std.proofs.lemmas.Map.Lookups.{exact_bytes}
 use Rattle.std.specs.Borrow.{Bor}
 use Rattle.std.specs.Cmp.Lexicographic.{slice_cmp}
 use Rattle.std.specs.Fn.{Mut}
+use Rattle.std.specs.Option.{option_copied}
 use Rattle.std.specs.Ordering.{match_ordering, nat_cmp}
-use Rattle.rart_keys.specs.Ranges.{is_from_bound, pairs_from}
-use Rattle.rart_keys.specs.SortedMap.{IsAscending, lookup}
-use Rattle.rart_keys.proofs.maps.SortedMaps.{ascending-put, equal_by_lookups, lookup-put_at, lookup-put_elsewhere}
+use Rattle.std.specs.Prelude.{is_some, slice_get}
+use Rattle.rart_keys.specs.Ranges.{pairs_from}
+use Rattle.rart_keys.specs.SortedMap.{IsAscending}
 use Rattle.rart.specs.UnionCalls.{CalledAtEither, CallsAtEither, CanCallAtEither, TakesEither}
-use Rattle.rart.specs.Unions.{either, union_of}
-use Rattle.rart.proofs.trees.UnionLawLemmas.{lookup-union, union-ascends}
+use Rattle.rart.specs.Unions.{union_of}
 use Rattle.rart.proofs.trees.UnionLemmas.{steps-both, steps-first, steps-second}
-use Rattle.rart_cidr.specs.tables.TwoTables.{least_key, routes_from}
-use Rattle.rart_cidr.proofs.routes.RemovalLemmas.{first_key}
+use Rattle.rart_cidr.specs.tables.TwoTables.{least_route, next_if}
 use Rattle.rart_cidr.proofs.walks.CallWalks.{Remains, remains-all, remains-first, remains-next, remains-none}
-use Rattle.rart_cidr.proofs.walks.FilterLemmas.{ascending_filter, lookup_filter}
-use Rattle.rart_cidr.proofs.walks.PositionLemmas.{IsAtRoute, IsSplit, at-end, at-next, at-route, at-start, fewer-left}
+use Rattle.rart_cidr.proofs.walks.PositionLemmas.{IsSplitAt, after-pair, ascends-last, at-pair, routes-left}
+use Rattle.rart_cidr.proofs.walks.PositionLemmas.{routes_at, split-start}
+
+-- the target is there where its copy is
+pub copied-alike : {T : Type 0} (o : Option (Bor T)) (b : Bool) → b ≡ is_some o → b ≡ is_some (option_copied o)
+copied-alike None b h = h
+copied-alike (Some t) b h = h
+
+module _ {T : Type 0} where
+  ascends-left : {cur done todo : List (List ℕ × T)} {at : Option (List ℕ × T)} → IsAscending cur
+      → IsSplitAt cur at done todo → IsAscending todo
+  ascends-left {done} {todo} a s = ascends-last done todo (subst IsAscending s.routes a)
+
+  -- the route of a network, if it has a target, and others
+  abbrev before_others : List ℕ → Option T → List (List ℕ × T) → List (List ℕ × T)
+  before_others n None es = es
+  before_others n (Some t) es = (n, t) ∷ es
+
+  -- the walk goes to the next route where the network has a target
+  goes-after : {cur done todo : List (List ℕ × T)} {at to : Option (List ℕ × T)} (n : List ℕ) (o : Option T) (b : Bool)
+      (rest : List (List ℕ × T)) → IsAscending cur → IsSplitAt cur at done todo → todo ≡ before_others n o rest
+      → b ≡ is_some o → to ≡ next_if b (pairs_from false n cur) at
+      → (kept : List (List ℕ × T)) × IsSplitAt cur to kept rest
+  goes-after n None true rest a s h i e = absurd (let x = i in cc)
+  goes-after {done} n None false rest a s h i e = (
+    done,
+    record { routes = s.routes ∙ ap (λ z. done ++ z) h; first = e ∙ s.first ∙ ap (λ z. slice_get z 0) h },
+  )
+  goes-after {cur} {done} {to} n (Some t) true rest a s h i e =
+      let r = at-pair {e = (n, t)} a (record { routes = s.routes ∙ ap (λ z. done ++ z) h; first = refl }) in
+      let same : r.rest ≡ rest = (let x = r.here in cc) in
+      (done ++ (n, t) ∷ [], subst (IsSplitAt cur to (done ++ (n, t) ∷ [])) same (after-pair r e))
+  goes-after n (Some t) false rest a s h i e = absurd (let x = i in cc)
 
 module _ {V W : Type 0} where
-  ascends : (s : List (List ℕ × V)) (t : List (List ℕ × W)) → IsAscending t → IsAscending (union_of s t)
-  ascends s t b = union-ascends ascending-put s t b
+  -- the lesser first network of two tables with its targets, and the routes after it
+  record IsLeast (x : List ℕ × (Option V × Option W)) (es : List (List ℕ × V)) (ds : List (List ℕ × W)) : Type 0 where
+    pub rest : List (List ℕ × V)
+    pub rest_there : List (List ℕ × W)
+    pub here : es ≡ before_others x.0 x.1.0 rest
+    pub there : ds ≡ before_others x.0 x.1.1 rest_there
+    pub union : union_of es ds ≡ x ∷ union_of rest rest_there
+    pub fewer : length rest + length rest_there < length es + length ds
 
-  look-up : (k : List ℕ) (s : List (List ℕ × V)) (t : List (List ℕ × W))
-      → lookup k (union_of s t) ≡ either (lookup k s) (lookup k t)
-  look-up k s t = lookup-union lookup-put_at lookup-put_elsewhere k s t
+  least-is : (x : List ℕ × (Option V × Option W)) (es : List (List ℕ × V)) (ds : List (List ℕ × W)) → IsAscending es
+      → IsAscending ds → Some x ≡ least_route (slice_get es 0) (slice_get ds 0) → IsLeast x es ds
+  least-is x [] [] a b h = absurd (let y = h in cc)
+  least-is x [] (d ∷ ds) a b h = let same : x ≡ (d.0, (None, Some d.1)) = (let y = h in cc) in
+      subst (λ z. IsLeast z [] (d ∷ ds)) (sym same)
+      (record { rest = []; rest_there = ds; here = refl; there = refl; union = refl; fewer = omega arith })
+  least-is x (e ∷ es) [] a b h = let same : x ≡ (e.0, (Some e.1, None)) = (let y = h in cc) in
+      subst (λ z. IsLeast z (e ∷ es) []) (sym same) (record {
+        rest = es;
+        rest_there = [];
+        here = refl;
+        there = refl;
+        union = steps-first (union_of (e ∷ es) []) (e ∷ es) es [] e Less refl (a, b) refl refl refl;
+        fewer = omega arith;
+      })
+  least-is x (e ∷ es) (d ∷ ds) a b h = elim (slice_cmp nat_cmp e.0 d.0) as (λ o. slice_cmp nat_cmp e.0 d.0 ≡ o
+      → Some x ≡ match_ordering o (Some (e.0, (Some e.1, None))) (Some (e.0, (Some e.1, Some d.1)))
+      (Some (d.0, (None, Some d.1))) → IsLeast x (e ∷ es) (d ∷ ds)) [
+        | Less ↦ λ o i. let same : x ≡ (e.0, (Some e.1, None)) = (let y = i in cc) in
+            subst (λ z. IsLeast z (e ∷ es) (d ∷ ds)) (sym same) (record {
+              rest = es;
+              rest_there = d ∷ ds;
+              here = refl;
+              there = refl;
+              union = steps-first (union_of (e ∷ es) (d ∷ ds)) (e ∷ es) es (d ∷ ds) e Less refl (a, b)
+                  (ap (λ z. Some z) (sym o)) refl refl;
+              fewer = omega arith;
+            })
+        | Equal ↦ λ o i. let same : x ≡ (e.0, (Some e.1, Some d.1)) = (let y = i in cc) in
+            subst (λ z. IsLeast z (e ∷ es) (d ∷ ds)) (sym same) (record {
+              rest = es;
+              rest_there = ds;
+              here = refl;
+              there = ap (λ z. (z, d.1) ∷ ds) (sym (exact_bytes e.0 d.0 o));
+              union = steps-both {d = e} {k = d.0} {w = d.1} refl (a, b) (ap (λ z. Some z) (sym o)) refl refl refl;
+              fewer = omega arith;
+            })
+        | Greater ↦ λ o i. let same : x ≡ (d.0, (None, Some d.1)) = (let y = i in cc) in
+            subst (λ z. IsLeast z (e ∷ es) (d ∷ ds)) (sym same) (record {
+              rest = e ∷ es;
+              rest_there = ds;
+              here = refl;
+              there = refl;
+              union = steps-second (union_of (e ∷ es) (d ∷ ds)) (e ∷ es) (d ∷ ds) ds d Greater refl (a, b)
+                  (ap (λ z. Some z) (sym o)) refl refl;
+              fewer = omega arith;
+            })
+      ] refl h
 
-  -- both targets of a network that one of the tables has
-  both-targets : (k : List ℕ) (s : List (List ℕ × V)) (t : List (List ℕ × W)) (x : Option V × Option W)
-      → lookup k (union_of s t) ≡ Some x → (lookup k s ≡ x.0) × (lookup k t ≡ x.1)
-  both-targets k s t x h = by-cases (lookup k s) (lookup k t) (sym (look-up k s t) ∙ h)
-    where
-      by-cases : (v : Option V) (w : Option W) → either v w ≡ Some x → (v ≡ x.0) × (w ≡ x.1)
-      by-cases None None e = absurd (let z = e in cc)
-      by-cases None (Some w) e = let z : ◌≡◌ {A = Option V × Option W} (None, Some w) x = (let y = e in cc) in
-          (ap (λ p. p.0) z, ap (λ p. p.1) z)
-      by-cases (Some v) w e = let z : (Some v, w) ≡ x = (let y = e in cc) in (ap (λ p. p.0) z, ap (λ p. p.1) z)
-
-  union-first : (s : List (List ℕ × V)) (t : List (List ℕ × W)) → IsAscending s → IsAscending t
-      → least_key (first_key s) (first_key t) ≡ first_key (union_of s t)
-  union-first [] [] a b = refl
-  union-first [] (e ∷ t) a b = refl
-  union-first (d ∷ s) [] a b
-      = sym (ap first_key (steps-first (union_of (d ∷ s) []) (d ∷ s) s [] d Less refl (a, tt) refl refl refl))
-  union-first (d ∷ s) (e ∷ t) a b = elim (slice_cmp nat_cmp d.0 e.0) as (λ o. slice_cmp nat_cmp d.0 e.0 ≡ o
-      → match_ordering o (Some d.0) (Some d.0) (Some e.0) ≡ first_key (union_of (d ∷ s) (e ∷ t))) [
-        | Less ↦ λ h. sym (ap first_key (steps-first (union_of (d ∷ s) (e ∷ t)) (d ∷ s) s (e ∷ t) d Less refl (a, b)
-            (ap (λ z. Some z) (sym h)) refl refl))
-        | Equal ↦ λ h. sym (ap first_key (steps-both {d = d} {k = e.0} {w = e.1} refl (a, b)
-            (ap (λ z. Some z) (sym h)) refl refl refl))
-        | Greater ↦ λ h. sym (ap first_key (steps-second (union_of (d ∷ s) (e ∷ t)) (d ∷ s) (e ∷ t) t e Greater refl
-            (a, b) (ap (λ z. Some z) (sym h)) refl refl))
-      ] refl
-
-  if-either : (b : Bool) (v : Option V) (w : Option W)
-      → either (if b then v else None) (if b then w else None) ≡ (if b then either v w else None)
-  if-either true v w = refl
-  if-either false v w = refl
-
-  module _ (s : List (List ℕ × V)) (t : List (List ℕ × W)) (a : IsAscending s) (b : IsAscending t) where
-    union-from : (h : Bool) (n : List ℕ)
-        → union_of (pairs_from h n s) (pairs_from h n t) ≡ pairs_from h n (union_of s t)
-    union-from h n = let f = is_from_bound h n in
-        let c = ascending_filter f s a in let d = ascending_filter f t b in
-        equal_by_lookups (union_of (pairs_from h n s) (pairs_from h n t)) (pairs_from h n (union_of s t))
-        (ascends (pairs_from h n s) (pairs_from h n t) d) (ascending_filter f (union_of s t) (ascends s t b))
-        (λ k. look-up k (pairs_from h n s) (pairs_from h n t)
-        ∙ ap (λ z. either z (lookup k (pairs_from h n t))) (lookup_filter f k s)
-        ∙ ap (either (if f k then lookup k s else None)) (lookup_filter f k t)
-        ∙ if-either (f k) (lookup k s) (lookup k t)
-        ∙ ap (λ z. if f k then z else None) (sym (look-up k s t)) ∙ sym (lookup_filter f k (union_of s t)))
-
-    -- the first network of either table
-    first-of-both : (at : Option (List ℕ)) → at ≡ least_key (first_key s) (first_key t)
-        → at ≡ first_key (union_of s t)
-    first-of-both at e = e ∙ union-first s t a b
-
-    -- the next one
-    next-of-both : (n : List ℕ) (at : Option (List ℕ))
-        → at ≡ least_key (first_key (pairs_from false n s)) (first_key (pairs_from false n t))
-        → at ≡ first_key (pairs_from false n (union_of s t))
-    next-of-both n at e = e ∙ union-first (pairs_from false n s) (pairs_from false n t)
-        (ascending_filter (is_from_bound false n) s a) (ascending_filter (is_from_bound false n) t b)
-        ∙ ap first_key (union-from false n)
+  -- no network is left
+  none-left : (es : List (List ℕ × V)) (ds : List (List ℕ × W))
+      → None ≡ least_route (slice_get es 0) (slice_get ds 0) → union_of es ds ≡ []
+  none-left [] [] h = refl
+  none-left [] (d ∷ ds) h = absurd (let x = h in cc)
+  none-left (e ∷ es) [] h = absurd (let x = h in cc)
+  none-left (e ∷ es) (d ∷ ds) h = absurd (elim (slice_cmp nat_cmp e.0 d.0)
+      as (λ o. ◌≡◌ {A = Option (List ℕ × (Option V × Option W))} None (match_ordering o (Some (e.0, (Some e.1, None)))
+      (Some (e.0, (Some e.1, Some d.1))) (Some (d.0, (None, Some d.1)))) → ⊥) [
+        | Less ↦ λ i. let x = i in cc
+        | Equal ↦ λ i. let x = i in cc
+        | Greater ↦ λ i. let x = i in cc
+      ] h)
 
 module _ {F K V W : Type 0} (g : Mut F (K × (Option (Bor V) × (Option (Bor W) × Unit {0}))) (Unit {0}))
     (bytes : K → List ℕ) (s : List (List ℕ × V)) (t : List (List ℕ × W)) where
-  -- the calls with the networks from this one on are left
-  pub record Uniting (f0 : F) (at : Option (List ℕ)) (f : F) : Type 0 where
-    pub done : List (List ℕ × (Option V × Option W))
-    pub todo : List (List ℕ × (Option V × Option W))
-    pub split : IsSplit (union_of s t) at done todo
+  -- the calls with the networks from these routes on are left
+  pub record Uniting (f0 : F) (at : Option (List ℕ × V)) (there : Option (List ℕ × W)) (f : F) : Type 0 where
+    pub done : List (List ℕ × V)
+    pub todo : List (List ℕ × V)
+    pub done_there : List (List ℕ × W)
+    pub todo_there : List (List ℕ × W)
+    pub here : IsSplitAt s at done todo
+    pub other : IsSplitAt t there done_there todo_there
     pub calls : Remains (λ p x q. CalledAtEither g bytes p x q) (λ p x. TakesEither g bytes p x) f0 (union_of s t) f
-        todo
+        (union_of todo todo_there)
+
+  pub uniting-first : (f : F) (at : Option (List ℕ × V)) (there : Option (List ℕ × W))
+      → CanCallAtEither g bytes f (union_of s t) → at ≡ slice_get s 0 → there ≡ slice_get t 0 → Uniting f at there f
+  uniting-first f at there c e d = record {
+    done = [];
+    todo = s;
+    done_there = [];
+    todo_there = t;
+    here = split-start s at e;
+    other = split-start t there d;
+    calls = remains-all _ _ f (union_of s t) c;
+  }
 
 module _ {F K V W : Type 0} {g : Mut F (K × (Option (Bor V) × (Option (Bor W) × Unit {0}))) (Unit {0})}
-    {bytes : K → List ℕ} {s : List (List ℕ × V)} {t : List (List ℕ × W)} where
-  module _ (a : IsAscending s) (b : IsAscending t) where
-    pub uniting-first : {f : F} {at : Option (List ℕ)} → CanCallAtEither g bytes f (union_of s t)
-        → at ≡ least_key (first_key s) (first_key t) → Uniting g bytes s t f at f
-    uniting-first {f} {at} c e = record {
-      done = [];
-      todo = union_of s t;
-      split = at-start (union_of s t) at (first-of-both s t a b at e);
-      calls = remains-all _ _ f (union_of s t) c;
-    }
-
-    module _ {n : List ℕ} {f0 f : F} (u : Uniting g bytes s t f0 (Some n) f) where
-      route : IsAtRoute (union_of s t) n u.done u.todo
-      route = at-route n (union_of s t) u.done u.todo (ascends s t b) u.split
-
-      here : u.todo ≡ (n, (lookup n s, lookup n t)) ∷ route.rest
-      here = let x = both-targets n s t route.target route.stored in
-          route.here ∙ ap (λ z. (n, z) ∷ route.rest) (sym (ap (λ z. (z, lookup n t)) x.0
-          ∙ ap (λ z. (route.target.0, z)) x.1))
-
-      pub may-unite : TakesEither g bytes f (n, (lookup n s, lookup n t))
-      may-unite = remains-first _ _ f0 (union_of s t) f (n, (lookup n s, lookup n t)) u.todo route.rest here u.calls
-
-      pub uniting-next : {f' : F} {at : Option (List ℕ)} → CalledAtEither g bytes f (n, (lookup n s, lookup n t)) f'
-          → at ≡ least_key (first_key (pairs_from false n s)) (first_key (pairs_from false n t))
-          → Uniting g bytes s t f0 at f'
-          × (length (routes_from at (union_of s t)) < length (routes_from (Some n) (union_of s t)))
-      uniting-next {f'} {at} c e = let next = next-of-both s t a b n at e in
-          let split = at-next n (union_of s t) u.done u.todo at route next in (
-            record {
-              done = u.done ++ (n, route.target) ∷ [];
-              todo = route.rest;
-              split = split;
-              calls = remains-next _ _ f0 (union_of s t) f f' (n, (lookup n s, lookup n t)) u.todo route.rest here c
-                  u.calls;
-            },
-            fewer-left n (union_of s t) (union_of s t) u.done _ u.todo at (ascends s t b) (ascends s t b) u.split route
-                split,
-          )
-
-  pub uniting-at : {f0 f : F} {at to : Option (List ℕ)} → at ≡ to → Uniting g bytes s t f0 at f
-      → Uniting g bytes s t f0 to f
-  uniting-at {f0} {f} e u = subst (λ z. Uniting g bytes s t f0 z f) e u
+    {bytes : K → List ℕ} {s : List (List ℕ × V)} {t : List (List ℕ × W)} {f0 f : F} {at : Option (List ℕ × V)}
+    {there : Option (List ℕ × W)} (u : Uniting g bytes s t f0 at there f) where
+  from-lists : {o : Option (List ℕ × (Option V × Option W))} → o ≡ least_route at there
+      → o ≡ least_route (slice_get u.todo 0) (slice_get u.todo_there 0)
+  from-lists e = e ∙ ap (λ z. least_route z there) u.here.first ∙ ap (least_route (slice_get u.todo 0)) u.other.first
 
   -- all calls were made
-  pub united : {f0 f : F} → Uniting g bytes s t f0 None f → CallsAtEither g bytes f0 (union_of s t) f
-  united {f0} {f} u
-      = remains-none _ _ f0 (union_of s t) f u.todo (at-end (union_of s t) u.done u.todo u.split).0 u.calls
+  pub united : None ≡ least_route at there → CallsAtEither g bytes f0 (union_of s t) f
+  united e = remains-none _ _ f0 (union_of s t) f (union_of u.todo u.todo_there)
+      (none-left u.todo u.todo_there (from-lists e)) u.calls
+
+  module _ {x : List ℕ × (Option V × Option W)} (a : IsAscending s) (b : IsAscending t)
+      (e : Some x ≡ least_route at there) where
+    least : IsLeast x u.todo u.todo_there
+    least = least-is x u.todo u.todo_there (ascends-left a u.here) (ascends-left b u.other) (from-lists e)
+
+    pub may-unite : TakesEither g bytes f x
+    may-unite = remains-first _ _ f0 (union_of s t) f x (union_of u.todo u.todo_there)
+        (union_of least.rest least.rest_there) least.union u.calls
+
+    pub uniting-next : {f' : F} {to : Option (List ℕ × V)} {to_there : Option (List ℕ × W)} (h i : Bool)
+        → CalledAtEither g bytes f x f' → h ≡ is_some x.1.0 → i ≡ is_some x.1.1
+        → to ≡ next_if h (pairs_from false x.0 s) at
+        → to_there ≡ next_if i (pairs_from false x.0 t) there
+        → Uniting g bytes s t f0 to to_there f'
+        × (length (routes_at to s) + length (routes_at to_there t)
+        < length (routes_at at s) + length (routes_at there t))
+    uniting-next {f'} h i c p q m n =
+        let k = goes-after x.0 x.1.0 h least.rest a u.here least.here p m in
+        let l = goes-after x.0 x.1.1 i least.rest_there b u.other least.there q n in
+        let one = ap length (routes-left a k.1) in let two = ap length (routes-left b l.1) in
+        let three = ap length (routes-left a u.here) in let four = ap length (routes-left b u.other) in
+        let few = least.fewer in (
+          record {
+            done = k.0;
+            todo = least.rest;
+            done_there = l.0;
+            todo_there = least.rest_there;
+            here = k.1;
+            other = l.1;
+            calls = remains-next _ _ f0 (union_of s t) f f' x (union_of u.todo u.todo_there)
+                (union_of least.rest least.rest_there) least.union c u.calls;
+          },
+          omega (arith, one, two, three, four, few),
+        )

@@ -1,35 +1,59 @@
 //! The networks that one of two tables has, or both.
-ghost use Rattle.std.specs.Prelude.{◌≡◌, option_map};
-ghost use Rattle.rart_keys.specs.SortedMap.{lookup};
+ghost use Rattle.std.specs.Prelude.{◌≡◌, false, option_map};
+ghost use Rattle.std.specs.Option.{option_copied};
+ghost use Rattle.rart_keys.specs.Ranges.{pairs_from};
 ghost use Rattle.rart.specs.UnionCalls.{CalledAtEither, CallsAtEither, CallsAtEitherByValue};
 ghost use Rattle.rart.specs.UnionCalls.{CanCallAtEither, TakesEither};
 ghost use Rattle.rart.specs.Unions.{union_of};
-ghost use Rattle.rart_cidr.specs.tables.TwoTables.{least_key};
+ghost use Rattle.rart_cidr.specs.tables.TwoTables.{least_route, next_if};
 
 use crate::cidr::Network;
 use crate::network_table::NetworkTable;
 use std::cmp::Ordering;
 
-// Returns the lesser of two networks, or the one that is there.
-fn least<N: Network>(net: Option<N>, other: Option<N>) -> Option<N>
-    ensures { option_map N.bits result
-        ≡ least_key (option_map N.bits net) (option_map N.bits other) }
+// Returns the lesser network of two routes, and the target of each route of this network.
+fn least<'a, 'b, N: Network, T, U>(
+    at: &Option<(N, &'a T)>,
+    there: &Option<(N, &'b U)>,
+) -> Option<(N, Option<&'a T>, Option<&'b U>)>
+    ensures { option_map (λ p. (N.bits p.0, (option_copied p.1, option_copied p.2))) result
+        ≡ least_route (option_map (λ p. (N.bits p.0, p.1.now)) at.now)
+        (option_map (λ p. (N.bits p.0, p.1.now)) there.now) }
 {
-    let Some(net) = net else {
-        return other;
+    let Some((net, target)) = at else {
+        return match there {
+            Some((net, target)) => Some((*net, None, Some(*target))),
+            None => None,
+        };
     };
-    let Some(other) = other else {
-        return Some(net);
+    let Some((net_there, target_there)) = there else {
+        return Some((*net, Some(*target), None));
     };
-    match net.cmp_bits(&other) {
-        Ordering::Less | Ordering::Equal => Some(net),
-        Ordering::Greater => Some(other),
+    match net.cmp_bits(net_there) {
+        Ordering::Less => Some((*net, Some(*target), None)),
+        Ordering::Equal => Some((*net, Some(*target), Some(*target_there))),
+        Ordering::Greater => Some((*net_there, None, Some(*target_there))),
     }
+}
+
+// Calls `f` with a network and its target in each table.
+fn call_for_either<N: Network, T, U, F: FnMut(&N, Option<&T>, Option<&U>)>(
+    net: &N,
+    target: Option<&T>,
+    target_there: Option<&U>,
+    f: &mut F,
+)
+    requires { TakesEither F.FnMut (λ net. N.bits net.now) f.old
+        (N.bits net.now, (option_copied target, option_copied target_there)) }
+    ensures { CalledAtEither F.FnMut (λ net. N.bits net.now) f.old
+        (N.bits net.now, (option_copied target.entry, option_copied target_there.entry)) f.new }
+{
+    f(net, target, target_there);
 }
 
 impl<N: Network, T> NetworkTable<N, T> {
     /// Calls `f` with each network that either table has, by address, then by length, and its target in each. The
-    /// caller keeps `f`. It looks up each network and the next one in both tables, and allocates nothing.
+    /// caller keeps `f`. It looks up each route of both tables once, and allocates nothing.
     pub fn union_with_by_ref<U, F: FnMut(&N, Option<&T>, Option<&U>)>(
         &self,
         other: &NetworkTable<N, U>,
@@ -43,10 +67,12 @@ impl<N: Network, T> NetworkTable<N, T> {
     {
         self.ascends();
         other.ascends();
-        let mut at = least(self.first_net(), other.first_net());
-        while let Some(net) = at {
-            self.call_for_either(other, &net, f);
-            at = least(self.net_after(&net), other.net_after(&net));
+        let mut at = self.first();
+        let mut there = other.first();
+        while let Some(next) = least(&at, &there) {
+            call_for_either(&next.0, next.1, next.2, f);
+            at = self.after_if(next.1.is_some(), &next.0, at);
+            there = other.after_if(next.2.is_some(), &next.0, there);
         }
     }
 
@@ -63,22 +89,13 @@ impl<N: Network, T> NetworkTable<N, T> {
     {
         self.union_with_by_ref(other, &mut f);
     }
-    // Calls `f` with `net` and its target in each table.
-    fn call_for_either<U, F: FnMut(&N, Option<&T>, Option<&U>)>(
-        &self,
-        other: &NetworkTable<N, U>,
-        net: &N,
-        f: &mut F,
-    )
-        requires { TakesEither F.FnMut (λ net. N.bits net.now) f.old (
-          N.bits net.now,
-          (lookup (N.bits net.now) self.now, lookup (N.bits net.now) other.now),
-        ) }
-        ensures { CalledAtEither F.FnMut (λ net. N.bits net.now) f.old (
-          N.bits net.now,
-          (lookup (N.bits net.now) self.now, lookup (N.bits net.now) other.now),
-        ) f.new }
+
+    // Returns the first route after `net` if the walk is at it, and else the route that the walk is at.
+    fn after_if<'a>(&'a self, is_at: bool, net: &N, at: Option<(N, &'a T)>) -> Option<(N, &'a T)>
+        ensures { option_map (λ p. (N.bits p.0, p.1.now)) result
+            ≡ next_if is_at (pairs_from false (N.bits net.now) self.now)
+            (option_map (λ p. (N.bits p.0, p.1.now)) at.entry) }
     {
-        f(net, self.get(net), other.get(net));
+        if is_at { self.first_after(net) } else { at }
     }
 }
