@@ -1,24 +1,27 @@
--- A walk over the networks that two tables share: it skips those that one of them lacks.
-use Rattle.std.proofs.Common.{◌≡◌, ℕ, ◌+◌, ◌<◌, ⊎_elim, arith, length, List, [], ◌∷◌, ◌++◌, true, false, refl, sym}
-use Rattle.std.proofs.Common.{ap, subst, ◌∙◌, Option, Some, None, if◌then◌else◌}
-use Rattle.std.proofs.lemmas.List.{append-nil, append_assoc, length-append}
-use Rattle.rart_keys.specs.ByteStrings.{IsLess}
+-- A walk over the networks that two tables share: each table skips to the network that the other one is at.
+use Rattle.std.proofs.Common.{◌≡◌, ℕ, ◌+◌, ◌<◌, ◌≤◌, ⊎_elim, arith, length, List, [], ◌∷◌, ◌++◌, true, false, refl, sym}
+use Rattle.std.proofs.Common.{ap, subst, ◌∙◌, Option, Some, None, Less, Equal, Greater}
+use Rattle.std.proofs.lemmas.List.{append_assoc, length-append}
+use Rattle.std.proofs.lemmas.Cmp.{nat_list_cmp_total}
+use Rattle.std.proofs.lemmas.Map.Lookups.{exact_bytes}
 use Rattle.std.specs.Borrow.{Bor}
+use Rattle.std.specs.Cmp.Lexicographic.{slice_cmp}
 use Rattle.std.specs.Fn.{Mut, always_mut}
-use Rattle.rart_keys.specs.Joins.{ahead_if, both, join}
+use Rattle.std.specs.Ordering.{nat_cmp}
+use Rattle.std.specs.Prelude.{slice_get}
+use Rattle.rart_keys.specs.ByteStrings.{IsLess, bytes_eq}
+use Rattle.rart_keys.specs.Joins.{ahead_if, join}
 use Rattle.rart_keys.specs.Ranges.{is_from_bound, pairs_from}
 use Rattle.rart_keys.specs.SortedMap.{AreAbove, IsAscending, lookup}
 use Rattle.rart_keys.proofs.maps.SortedMaps.{above-trans, lookup-above}
-use Rattle.rart_keys.proofs.strings.ByteOrder.{below-trans, compare}
+use Rattle.rart_keys.proofs.strings.ByteOrder.{below-not_eq, below-trans, bytes_eq-itself, compare}
 use Rattle.rart_trie.proofs.edits.CallbackLemmas.{always-on, folds-keep}
 use Rattle.rart_nodes.specs.joins.PairCalls.{CalledAt, CallsAtEach, CanCallAt, TakesAtKey}
-use Rattle.rart_cidr.specs.tables.TwoTables.{CallsIfBoth, TakesIfBoth, routes_from}
-use Rattle.rart_cidr.proofs.walks.PositionLemmas.{IsAtRoute, IsSplit, at-end, at-route, at-start, first-is, todo-is}
-use Rattle.rart_cidr.proofs.routes.RemovalLemmas.{first_key, no-first}
-use Rattle.rart_cidr.proofs.routes.SplitLemmas.{above-last, from-all, split-above}
+use Rattle.rart_cidr.proofs.walks.PositionLemmas.{IsAtPair, IsSplitAt, after-pair, ascends-last, at-pair, no-pair}
+use Rattle.rart_cidr.proofs.walks.PositionLemmas.{routes-left, routes_at, split-start}
+use Rattle.rart_cidr.proofs.routes.SplitLemmas.{above-last, from-all}
 use Rattle.rart_cidr.proofs.walks.CallWalks.{Remains, remains-all, remains-first, remains-next, remains-none}
-use Rattle.rart_cidr.proofs.walks.FilterLemmas.{ascending_filter, from_after, from_before, from_is, from_itself}
-use Rattle.rart_cidr.proofs.walks.FilterLemmas.{lookup_filter}
+use Rattle.rart_cidr.proofs.walks.FilterLemmas.{from_after, from_before, from_itself, lookup_filter}
 
 module _ {T : Type 0} where
   -- the routes before a network, and those from it on
@@ -42,118 +45,108 @@ module _ {T : Type 0} where
       = rw (from_before true m e.0 (below-trans e.0 n m (above-last e.0 n x done rest a.0) l))
       (from-later n m x done rest a.1 l)
 
-  -- of the networks after n, those before the first one are not stored
-  none-between : (n k : List ℕ) (t : List (List ℕ × T)) → IsAscending t → IsLess n k
-      → (o : Option (List ℕ)) → o ≡ first_key (pairs_from false n t) → ((m : List ℕ) → o ≡ Some m → IsLess k m)
-      → lookup k t ≡ None
-  none-between n k t a l o e h = let here = lookup_filter (is_from_bound false n) k t in
-      let passes = from_after false n k l in
-      sym (let x = here in rw passes at x) ∙ none o e h
+  -- the walk skips to a network after its own
+  record SkipsTo (cur : List (List ℕ × T)) (at : Option (List ℕ × T)) (m : List ℕ) (rest : List (List ℕ × T)) : Type 0
     where
-      none : (o : Option (List ℕ)) → o ≡ first_key (pairs_from false n t) → ((m : List ℕ) → o ≡ Some m → IsLess k m)
-          → lookup k (pairs_from false n t) ≡ None
-      none None e h = ap (lookup k) (no-first (pairs_from false n t) e)
-      none (Some m) e h = let f = first-is m (pairs_from false n t) e in
-          let up : IsAscending ((m, f.0) ∷ f.1)
-          = subst IsAscending f.2 (ascending_filter (is_from_bound false n) t a) in
-          ap (lookup k) f.2 ∙ lookup-above k ((m, f.0) ∷ f.1) (h m refl, above-trans k m f.1 (h m refl) up.0)
+      pub kept : List (List ℕ × T)
+      pub split : IsSplitAt cur at kept (pairs_from true m rest)
+      pub fewer : length (pairs_from true m rest) ≤ length rest
 
-  -- the first network after n
-  after-is : (n m : List ℕ) (t : List (List ℕ × T)) → Some m ≡ first_key (pairs_from false n t) → IsLess n m
-  after-is n m [] e = absurd (let x = e in cc)
-  after-is n m (d ∷ t) e = elim (is_from_bound false n d.0) as (λ b. is_from_bound false n d.0 ≡ b
-      → Some m ≡ first_key (if b then d ∷ pairs_from false n t else pairs_from false n t) → IsLess n m) [
-        | true ↦ λ s g. let same : m ≡ d.0 = (let x = g in cc) in
-            subst (λ z. IsLess n z) (sym same)
-            (⊎_elim (λ l. l) (λ p. absurd (let x = p.1 in cc)) (from_is false n d.0 s))
-        | false ↦ λ s g. after-is n m t g
-      ] refl e
+  skips-to : {cur done todo : List (List ℕ × T)} {e : List ℕ × T} {at : Option (List ℕ × T)} (m : List ℕ)
+      → (r : IsAtPair cur e done todo) → IsLess e.0 m → at ≡ slice_get (pairs_from true m cur) 0
+      → SkipsTo cur at m r.rest
+  skips-to {cur} {done} {todo} {e} {at} m r l h =
+      let parts = from-parts m r.rest (ascends-last done (e ∷ r.rest) r.ascends).1 in
+      let one = ap length parts.1 in let two = length-append parts.0 (pairs_from true m r.rest) in record {
+        kept = done ++ e ∷ parts.0;
+        split = record {
+          routes = r.routes ∙ ap (λ z. done ++ e ∷ z) parts.1
+              ∙ sym (append_assoc done (e ∷ parts.0) (pairs_from true m r.rest));
+          first = h ∙ ap (λ z. slice_get (pairs_from true m z) 0) r.routes
+              ∙ ap (λ z. slice_get z 0) (from-later e.0 m e.1 done r.rest r.ascends l);
+        };
+        fewer = omega (arith, one, two);
+      }
 
 module _ {V W : Type 0} where
-  join-none : (es : List (List ℕ × V)) (t : List (List ℕ × W)) (n : List ℕ) → AreAbove n es
-      → ((k : List ℕ) → IsLess n k → lookup k t ≡ None) → join es t ≡ []
-  join-none [] t n a h = refl
-  join-none (e ∷ es) t n a h = rw (h e.0 a.0) (join-none es t n a.1 h)
-
-  join-skip : (es : List (List ℕ × V)) (t : List (List ℕ × W)) (n m : List ℕ) → AreAbove n es
-      → ((k : List ℕ) → IsLess n k → IsLess k m → lookup k t ≡ None) → join es t ≡ join (pairs_from true m es) t
-  join-skip [] t n m a h = refl
-  join-skip (e ∷ es) t n m a h = ⊎_elim
-      (λ l. rw (from_after true m e.0 l) (ap (ahead_if e.0 e.1 (lookup e.0 t)) (join-skip es t n m a.1 h)))
+  join-skip : (es : List (List ℕ × V)) (t : List (List ℕ × W)) (m : List ℕ)
+      → ((k : List ℕ) → IsLess k m → lookup k t ≡ None) → join es t ≡ join (pairs_from true m es) t
+  join-skip [] t m h = refl
+  join-skip (e ∷ es) t m h = ⊎_elim
+      (λ l. rw (from_after true m e.0 l) (ap (ahead_if e.0 e.1 (lookup e.0 t)) (join-skip es t m h)))
       (⊎_elim
       (λ s. let one : is_from_bound true m e.0 ≡ true = ap (is_from_bound true m) (sym s) ∙ from_itself true m in
-      rw one (ap (ahead_if e.0 e.1 (lookup e.0 t)) (join-skip es t n m a.1 h)))
-      (λ l. rw (from_before true m e.0 l, h e.0 a.0 l) (join-skip es t n m a.1 h)))
+      rw one (ap (ahead_if e.0 e.1 (lookup e.0 t)) (join-skip es t m h)))
+      (λ l. rw (from_before true m e.0 l, h e.0 l) (join-skip es t m h)))
       (compare m e.0)
 
-  -- the next route of the first table from the next one of the second on
-  record GoesOn (s : List (List ℕ × V)) (t : List (List ℕ × W)) (rest : List (List ℕ × V))
-      (at : Option (List ℕ)) : Type 0 where
-    pub done : List (List ℕ × V)
-    pub todo : List (List ℕ × V)
-    pub split : IsSplit s at done todo
-    pub same : join rest t ≡ join todo t
-    pub fewer : length todo < length rest + 1
+  -- a network before all of the first table
+  join-past : (d : List ℕ × W) (es : List (List ℕ × V)) (ds : List (List ℕ × W)) → AreAbove d.0 es
+      → join es (d ∷ ds) ≡ join es ds
+  join-past d [] ds a = refl
+  join-past d (e ∷ es) ds a = rw (below-not_eq d.0 e.0 a.0)
+      (ap (ahead_if e.0 e.1 (lookup e.0 ds)) (join-past d es ds a.1))
 
-  module _ (n : List ℕ) (s : List (List ℕ × V)) (t : List (List ℕ × W)) (a : IsAscending s) (b : IsAscending t)
-      (done todo : List (List ℕ × V)) (r : IsAtRoute s n done todo) where
-    above : AreAbove n r.rest
-    above = split-above n r.target done r.rest r.ascends
+  join-after : (n : List ℕ) (es : List (List ℕ × V)) (t : List (List ℕ × W)) → AreAbove n es
+      → join es (pairs_from true n t) ≡ join es t
+  join-after n [] t a = refl
+  join-after n (e ∷ es) t a =
+      let same : lookup e.0 (pairs_from true n t) ≡ lookup e.0 t
+      = rw (from_after true n e.0 a.0) at (lookup_filter (is_from_bound true n) e.0 t) in
+      ap (λ z. ahead_if e.0 e.1 z (join es (pairs_from true n t))) same
+      ∙ ap (ahead_if e.0 e.1 (lookup e.0 t)) (join-after n es t a.1)
 
-    goes-on : (there at : Option (List ℕ)) → there ≡ first_key (pairs_from false n t)
-        → at ≡ first_key (routes_from there s) → GoesOn s t r.rest at
-    goes-on None at e f = record {
-      done = s;
-      todo = [];
-      split = record { routes = sym (append-nil s); first = f };
-      same = join-none r.rest t n above
-          (λ k l. none-between n k t b l None e (λ m g. absurd (let x = g in cc)));
-      fewer = omega arith;
-    }
-    goes-on (Some m) at e f = let l = after-is n m t e in
-        let left : pairs_from true m s ≡ pairs_from true m r.rest
-        = ap (pairs_from true m) r.routes ∙ from-later n m r.target done r.rest r.ascends l in
-        let p = from-parts m r.rest (ascends-rest done r.rest r.ascends) in record {
-          done = done ++ (n, r.target) ∷ p.0;
-          todo = pairs_from true m r.rest;
-          split = record {
-            routes = r.routes ∙ ap (λ z. done ++ (n, r.target) ∷ z) p.1
-                ∙ sym (append_assoc done ((n, r.target) ∷ p.0) (pairs_from true m r.rest));
-            first = f ∙ ap first_key left;
-          };
-          same = join-skip r.rest t n m above
-              (λ k h i. none-between n k t b h (Some m) e (λ z g. let x : m ≡ z = (let y = g in cc) in
-              subst (IsLess k) x i));
-          fewer = let one = ap length p.1 in let two = length-append p.0 (pairs_from true m r.rest) in
-              omega (arith, one, two);
-        }
+  module _ (e : List ℕ × V) (d : List ℕ × W) (es : List (List ℕ × V)) (ds : List (List ℕ × W))
+      (a : IsAscending (e ∷ es)) (b : IsAscending (d ∷ ds)) where
+    join-less : IsLess e.0 d.0 → join (e ∷ es) (d ∷ ds) ≡ join (pairs_from true d.0 es) (d ∷ ds)
+    join-less l = ap (λ z. ahead_if e.0 e.1 z (join es (d ∷ ds))) (none e.0 l) ∙ join-skip es (d ∷ ds) d.0 none
       where
-        ascends-rest : (ds rest : List (List ℕ × V)) → IsAscending (ds ++ (n, r.target) ∷ rest) → IsAscending rest
-        ascends-rest [] rest u = u.1
-        ascends-rest (d ∷ ds) rest u = ascends-rest ds rest u.1
+        none : (k : List ℕ) → IsLess k d.0 → lookup k (d ∷ ds) ≡ None
+        none k i = lookup-above k (d ∷ ds) (i, above-trans k d.0 ds i b.0)
 
-    -- fewer routes are left
-    goes-on-fewer : IsSplit s (Some n) done todo → (at : Option (List ℕ)) → GoesOn s t r.rest at
-        → length (routes_from at s) < length (routes_from (Some n) s)
-    goes-on-fewer p at g = let one = ap length (todo-is s g.done g.todo at a g.split) in
-        let two = ap length (todo-is s done todo (Some n) a p ∙ r.here) in let few = g.fewer in
-        omega (arith, one, two, few)
+    join-equal : e.0 ≡ d.0 → join (e ∷ es) (d ∷ ds) ≡ (e.0, (e.1, d.1)) ∷ join (e ∷ es) ds
+    join-equal s =
+        let one : bytes_eq d.0 e.0 ≡ true = ap (bytes_eq d.0) s ∙ bytes_eq-itself d.0 in
+        let found : lookup e.0 (d ∷ ds) ≡ Some d.1 = rw one refl in
+        ap (λ z. ahead_if e.0 e.1 z (join es (d ∷ ds))) found
+        ∙ ap (λ z. (e.0, (e.1, d.1)) ∷ z) (join-past d es ds (subst (λ z. AreAbove z es) s a.0)
+        ∙ sym (ap (λ z. ahead_if e.0 e.1 z (join es ds))
+        (lookup-above e.0 ds (subst (λ z. AreAbove z ds) (sym s) b.0))))
+
+    join-greater : IsLess d.0 e.0 → join (e ∷ es) (d ∷ ds) ≡ join (e ∷ es) (pairs_from true e.0 ds)
+    join-greater l =
+        let same : lookup e.0 (pairs_from true e.0 ds) ≡ lookup e.0 ds
+        = rw (from_itself true e.0) at (lookup_filter (is_from_bound true e.0) e.0 ds) in
+        join-past d (e ∷ es) ds (l, above-trans d.0 e.0 es l a.0)
+        ∙ sym (ap (λ z. ahead_if e.0 e.1 z (join es (pairs_from true e.0 ds))) same
+        ∙ ap (ahead_if e.0 e.1 (lookup e.0 ds)) (join-after e.0 es ds a.0))
+
+  join-none : (es : List (List ℕ × V)) → ◌≡◌ {A = List (List ℕ × (V × W))} (join es []) []
+  join-none [] = refl
+  join-none (e ∷ es) = join-none es
 
 module _ {F K V W : Type 0} (g : Mut F (K × (Bor V × (Bor W × Unit {0}))) (Unit {0})) (bytes : K → List ℕ)
     (s : List (List ℕ × V)) (t : List (List ℕ × W)) where
-  -- the calls with the networks from this one on are left
-  pub record Joining (f0 : F) (at : Option (List ℕ)) (f : F) : Type 0 where
+  -- the calls with the networks from these routes on are left
+  pub record Joining (f0 : F) (at : Option (List ℕ × V)) (there : Option (List ℕ × W)) (f : F) : Type 0 where
     pub done : List (List ℕ × V)
     pub todo : List (List ℕ × V)
-    pub split : IsSplit s at done todo
-    pub calls : Remains (λ p x q. CalledAt g bytes p x q) (λ p x. TakesAtKey g bytes p x) f0 (join s t) f (join todo t)
+    pub done_there : List (List ℕ × W)
+    pub todo_there : List (List ℕ × W)
+    pub here : IsSplitAt s at done todo
+    pub other : IsSplitAt t there done_there todo_there
+    pub calls : Remains (λ p x q. CalledAt g bytes p x q) (λ p x. TakesAtKey g bytes p x) f0 (join s t) f
+        (join todo todo_there)
 
-  pub joining-first : (f : F) (at : Option (List ℕ)) → CanCallAt g bytes f (join s t) → at ≡ first_key s
-      → Joining f at f
-  joining-first f at c e = record {
+  pub joining-first : (f : F) (at : Option (List ℕ × V)) (there : Option (List ℕ × W)) → CanCallAt g bytes f (join s t)
+      → at ≡ slice_get s 0 → there ≡ slice_get t 0 → Joining f at there f
+  joining-first f at there c e d = record {
     done = [];
     todo = s;
-    split = at-start s at e;
+    done_there = [];
+    todo_there = t;
+    here = split-start s at e;
+    other = split-start t there d;
     calls = remains-all _ _ f (join s t) c;
   }
 
@@ -163,61 +156,112 @@ module _ {F K V W : Type 0} (g : Mut F (K × (Bor V × (Bor W × Unit {0}))) (Un
 
 module _ {F K V W : Type 0} {g : Mut F (K × (Bor V × (Bor W × Unit {0}))) (Unit {0})} {bytes : K → List ℕ}
     {s : List (List ℕ × V)} {t : List (List ℕ × W)} {f0 f : F} where
-  pub joining-at : {at to : Option (List ℕ)} → at ≡ to → Joining g bytes s t f0 at f → Joining g bytes s t f0 to f
-  joining-at e j = subst (λ z. Joining g bytes s t f0 z f) e j
-
-  module _ {n : List ℕ} (a : IsAscending s) (b : IsAscending t) (j : Joining g bytes s t f0 (Some n) f) where
-    route : IsAtRoute s n j.done j.todo
-    route = at-route n s j.done j.todo a j.split
-
-    left : join j.todo t ≡ ahead_if n route.target (lookup n t) (join route.rest t)
-    left = ap (λ z. join z t) route.here
-
-    shared : (x : V × W) → both (lookup n s) (lookup n t) ≡ Some x → join j.todo t ≡ (n, x) ∷ join route.rest t
-    shared x h = by-cases (lookup n t) left (ap (λ z. both z (lookup n t)) (sym route.stored) ∙ h)
-      where
-        by-cases : (o : Option W) → join j.todo t ≡ ahead_if n route.target o (join route.rest t)
-            → both (Some route.target) o ≡ Some x → join j.todo t ≡ (n, x) ∷ join route.rest t
-        by-cases None l e = absurd (let z = e in cc)
-        by-cases (Some w) l e = let z : (route.target, w) ≡ x = (let y = e in cc) in
-            l ∙ ap (λ p. (n, p) ∷ join route.rest t) z
-
-    not-shared : both (lookup n s) (lookup n t) ≡ None → join j.todo t ≡ join route.rest t
-    not-shared h = by-cases (lookup n t) left (ap (λ z. both z (lookup n t)) (sym route.stored) ∙ h)
-      where
-        by-cases : (o : Option W) → join j.todo t ≡ ahead_if n route.target o (join route.rest t)
-            → both (Some route.target) o ≡ None → join j.todo t ≡ join route.rest t
-        by-cases None l e = l
-        by-cases (Some w) l e = absurd (let z = e in cc)
-
-    pub may-call : TakesIfBoth g bytes f n (both (lookup n s) (lookup n t))
-    may-call x h = remains-first _ _ f0 (join s t) f (n, x) (join j.todo t) (join route.rest t) (shared x h) j.calls
-
-    called : (f' : F) (o : Option (V × W)) → both (lookup n s) (lookup n t) ≡ o → CallsIfBoth g bytes f n o f'
-        → Remains (λ p x q. CalledAt g bytes p x q) (λ p x. TakesAtKey g bytes p x) f0 (join s t) f' (join route.rest t)
-    called f' None h c = subst (λ z. Remains (λ p x q. CalledAt g bytes p x q) (λ p x. TakesAtKey g bytes p x) f0
-        (join s t) z (join route.rest t)) c
-        (subst (λ z. Remains (λ p x q. CalledAt g bytes p x q) (λ p x. TakesAtKey g bytes p x) f0 (join s t) f z)
-        (not-shared h) j.calls)
-    called f' (Some x) h c
-        = remains-next _ _ f0 (join s t) f f' (n, x) (join j.todo t) (join route.rest t) (shared x h) c j.calls
-
-    pub joining-next : {f' : F} {there at : Option (List ℕ)}
-        → CallsIfBoth g bytes f n (both (lookup n s) (lookup n t)) f' → there ≡ first_key (pairs_from false n t)
-        → at ≡ first_key (routes_from there s)
-        → Joining g bytes s t f0 at f' × (length (routes_from at s) < length (routes_from (Some n) s))
-    joining-next {f'} {there} {at} c e h = let o = goes-on n s t a b j.done j.todo route there at e h in (
-      record {
-        done = o.done;
-        todo = o.todo;
-        split = o.split;
-        calls = subst (λ z. Remains (λ p x q. CalledAt g bytes p x q) (λ p x. TakesAtKey g bytes p x) f0 (join s t)
-            f' z) o.same (called f' (both (lookup n s) (lookup n t)) refl c);
-      },
-      goes-on-fewer n s t a b j.done j.todo route j.split at o,
-    )
+  pub joining-at : {at to : Option (List ℕ × V)} {there to_there : Option (List ℕ × W)} → at ≡ to → there ≡ to_there
+      → Joining g bytes s t f0 at there f → Joining g bytes s t f0 to to_there f
+  joining-at {to} {there} e d j = subst (λ z. Joining g bytes s t f0 to z f) d
+      (subst (λ z. Joining g bytes s t f0 z there f) e j)
 
   -- all calls were made
-  pub joined : Joining g bytes s t f0 None f → CallsAtEach g bytes f0 (join s t) f
-  joined j = remains-none _ _ f0 (join s t) f (join j.todo t)
-      (ap (λ z. join z t) (at-end s j.done j.todo j.split).0) j.calls
+  pub joined : {there : Option (List ℕ × W)} → Joining g bytes s t f0 None there f
+      → CallsAtEach g bytes f0 (join s t) f
+  joined j = remains-none _ _ f0 (join s t) f (join j.todo j.todo_there)
+      (ap (λ z. join z j.todo_there) (no-pair j.todo j.here.first)) j.calls
+
+  pub joined-there : {at : Option (List ℕ × V)} → Joining g bytes s t f0 at None f
+      → CallsAtEach g bytes f0 (join s t) f
+  joined-there j = remains-none _ _ f0 (join s t) f (join j.todo j.todo_there)
+      (ap (join j.todo) (no-pair j.todo_there j.other.first) ∙ join-none j.todo) j.calls
+
+  module _ {e : List ℕ × V} {d : List ℕ × W} (a : IsAscending s) (b : IsAscending t)
+      (j : Joining g bytes s t f0 (Some e) (Some d) f) where
+    route : IsAtPair s e j.done j.todo
+    route = at-pair a j.here
+
+    route_there : IsAtPair t d j.done_there j.todo_there
+    route_there = at-pair b j.other
+
+    up : IsAscending (e ∷ route.rest)
+    up = ascends-last j.done (e ∷ route.rest) route.ascends
+
+    up_there : IsAscending (d ∷ route_there.rest)
+    up_there = ascends-last j.done_there (d ∷ route_there.rest) route_there.ascends
+
+    left : join j.todo j.todo_there ≡ join (e ∷ route.rest) (d ∷ route_there.rest)
+    left = ap (λ z. join z j.todo_there) route.here ∙ ap (join (e ∷ route.rest)) route_there.here
+
+    -- the other table is at the same network
+    module _ (m : slice_cmp nat_cmp e.0 d.0 ≡ Equal) where
+      shared : join j.todo j.todo_there ≡ (e.0, (e.1, d.1)) ∷ join j.todo route_there.rest
+      shared = left ∙ join-equal e d route.rest route_there.rest up up_there (exact_bytes e.0 d.0 m)
+          ∙ ap (λ z. (e.0, (e.1, d.1)) ∷ join z route_there.rest) (sym route.here)
+
+      pub may-call : TakesAtKey g bytes f (e.0, (e.1, d.1))
+      may-call = remains-first _ _ f0 (join s t) f (e.0, (e.1, d.1)) (join j.todo j.todo_there)
+          (join j.todo route_there.rest) shared j.calls
+
+      pub joining-equal : {f' : F} {there : Option (List ℕ × W)} → CalledAt g bytes f (e.0, (e.1, d.1)) f'
+          → there ≡ slice_get (pairs_from false e.0 t) 0 → Joining g bytes s t f0 (Some e) there f'
+          × (length (routes_at (Some e) s) + length (routes_at there t)
+          < length (routes_at (Some e) s) + length (routes_at (Some d) t))
+      joining-equal {f'} c h =
+          let next = after-pair route_there
+          (h ∙ ap (λ z. slice_get (pairs_from false z t) 0) (exact_bytes e.0 d.0 m)) in
+          let one = ap length (routes-left b next) in
+          let two = ap length (routes-left b j.other ∙ route_there.here) in (
+            record {
+              done = j.done;
+              todo = j.todo;
+              done_there = j.done_there ++ d ∷ [];
+              todo_there = route_there.rest;
+              here = j.here;
+              other = next;
+              calls = remains-next _ _ f0 (join s t) f f' (e.0, (e.1, d.1)) (join j.todo j.todo_there)
+                  (join j.todo route_there.rest) shared c j.calls;
+            },
+            omega (arith, one, two),
+          )
+
+    -- the other table is at a later network
+    pub joining-less : {at : Option (List ℕ × V)} → slice_cmp nat_cmp e.0 d.0 ≡ Less
+        → at ≡ slice_get (pairs_from true d.0 s) 0 → Joining g bytes s t f0 at (Some d) f
+        × (length (routes_at at s) + length (routes_at (Some d) t)
+        < length (routes_at (Some e) s) + length (routes_at (Some d) t))
+    joining-less l h = let next = skips-to d.0 route l h in
+        let one = ap length (routes-left a next.split) in
+        let two = ap length (routes-left a j.here ∙ route.here) in let few = next.fewer in (
+          record {
+            done = next.kept;
+            todo = pairs_from true d.0 route.rest;
+            done_there = j.done_there;
+            todo_there = j.todo_there;
+            here = next.split;
+            other = j.other;
+            calls = subst (λ z. Remains (λ p x q. CalledAt g bytes p x q) (λ p x. TakesAtKey g bytes p x) f0 (join s t)
+                f z) (left ∙ join-less e d route.rest route_there.rest up up_there l
+                ∙ ap (join (pairs_from true d.0 route.rest)) (sym route_there.here)) j.calls;
+          },
+          omega (arith, one, two, few),
+        )
+
+    -- the other table is at an earlier network
+    pub joining-greater : {there : Option (List ℕ × W)} → slice_cmp nat_cmp e.0 d.0 ≡ Greater
+        → there ≡ slice_get (pairs_from true e.0 t) 0 → Joining g bytes s t f0 (Some e) there f
+        × (length (routes_at (Some e) s) + length (routes_at there t)
+        < length (routes_at (Some e) s) + length (routes_at (Some d) t))
+    joining-greater m h = let l : IsLess d.0 e.0 = rw (nat_list_cmp_total.antisymm d.0 e.0, m) refl in
+        let next = skips-to e.0 route_there l h in
+        let one = ap length (routes-left b next.split) in
+        let two = ap length (routes-left b j.other ∙ route_there.here) in let few = next.fewer in (
+          record {
+            done = j.done;
+            todo = j.todo;
+            done_there = next.kept;
+            todo_there = pairs_from true e.0 route_there.rest;
+            here = j.here;
+            other = next.split;
+            calls = subst (λ z. Remains (λ p x q. CalledAt g bytes p x q) (λ p x. TakesAtKey g bytes p x) f0 (join s t)
+                f z) (left ∙ join-greater e d route.rest route_there.rest up up_there l
+                ∙ ap (λ z. join z (pairs_from true e.0 route_there.rest)) (sym route.here)) j.calls;
+          },
+          omega (arith, one, two, few),
+        )

@@ -1,11 +1,8 @@
--- Where a walk over the routes of two tables goes next, and the calls that it makes.
-use Rattle.std.specs.Prelude.{◌≡◌, ℕ, Bool, true, false, List, [], Option, Some, None, slice_get}
-use Rattle.std.specs.Borrow.{Bor}
+-- Where a walk over the routes of one or two tables goes next.
+use Rattle.std.specs.Prelude.{ℕ, Bool, true, false, List, [], Option, Some, None, slice_get}
 use Rattle.std.specs.Cmp.Lexicographic.{slice_cmp}
-use Rattle.std.specs.Fn.{Mut}
 use Rattle.std.specs.Ordering.{match_ordering, nat_cmp}
 use Rattle.rart_keys.specs.Ranges.{pairs_from}
-use Rattle.rart_nodes.specs.joins.PairCalls.{CalledAt, TakesAtKey}
 
 -- the routes from a network on, or none
 abbrev pub routes_from : {T : Type 0} → Option (List ℕ) → List (List ℕ × T) → List (List ℕ × T)
@@ -25,13 +22,3 @@ least_route (Some d) (Some e) = match_ordering (slice_cmp nat_cmp d.0 e.0) (Some
 abbrev pub next_if : {T : Type 0} → Bool → List (List ℕ × T) → Option (List ℕ × T) → Option (List ℕ × T)
 next_if true later at = slice_get later 0
 next_if false later at = at
-
-module _ {F K V W : Type 0} (g : Mut F (K × (Bor V × (Bor W × Unit {0}))) (Unit {0})) (bytes : K → List ℕ) where
-  -- f may be called with the network and both targets, if both are there
-  abbrev pub TakesIfBoth : F → List ℕ → Option (V × W) → Type 0
-  TakesIfBoth f n targets = (x : V × W) → targets ≡ Some x → TakesAtKey g bytes f (n, x)
-
-  -- f was called so
-  abbrev pub CallsIfBoth : F → List ℕ → Option (V × W) → F → Type 0
-  CallsIfBoth f n None f' = f ≡ f'
-  CallsIfBoth f n (Some x) f' = CalledAt g bytes f (n, x) f'

@@ -1,23 +1,35 @@
 //! The networks that two tables share.
 
-// A walk over one table skips to the next network of the other one.
+// Each table's walk skips to the network that the other one is at.
 
-ghost use Rattle.std.specs.Prelude.{◌≡◌, false, option_map, slice_get};
-ghost use Rattle.rart_keys.specs.Joins.{both, join};
-ghost use Rattle.rart_keys.specs.Ranges.{pairs_from};
-ghost use Rattle.rart_keys.specs.SortedMap.{lookup};
-ghost use Rattle.rart_nodes.specs.joins.PairCalls.{CallsAtEach, CallsAtEachByValue, CanCallAt};
-ghost use Rattle.rart_cidr.specs.tables.TwoTables.{CallsIfBoth, TakesIfBoth, routes_from};
+ghost use Rattle.rart_keys.specs.Joins.{join};
+ghost use Rattle.rart_nodes.specs.joins.PairCalls.{CalledAt, CallsAtEach, CallsAtEachByValue, CanCallAt, TakesAtKey};
 
 use crate::cidr::Network;
 use crate::network_table::NetworkTable;
+use std::cmp::Ordering;
+
+// Calls `f` with a network and both targets.
+fn call_for_both<N: Network, T, U, F: FnMut(&N, &T, &U)>(
+    net: &N,
+    target: &T,
+    target_there: &U,
+    f: &mut F,
+)
+    requires { TakesAtKey F.FnMut (λ net. N.bits net.now) f.old
+        (N.bits net.now, (target.now, target_there.now)) }
+    ensures { CalledAt F.FnMut (λ net. N.bits net.now) f.old
+        (N.bits net.now, (target.now, target_there.now)) f.new }
+{
+    f(net, target, target_there);
+}
 
 impl<N: Network, T> NetworkTable<N, T> {
     /// Calls `f` with each network that both tables have, by address, then by length, and its target in each. The
     /// caller keeps `f`.
     ///
-    /// Allocates nothing. It skips what one of the tables lacks: each step looks up the next network of `other`, and
-    /// the next one of this table from there on.
+    /// Allocates nothing. It skips what one of the tables lacks: each step looks up the next route of one table, from
+    /// the network on that the other one is at. No route is looked up twice.
     pub fn intersect_with_by_ref<U, F: FnMut(&N, &T, &U)>(
         &self,
         other: &NetworkTable<N, U>,
@@ -31,10 +43,27 @@ impl<N: Network, T> NetworkTable<N, T> {
     {
         self.ascends();
         other.ascends();
-        let mut at = self.first_net();
-        while let Some(net) = at {
-            self.call_if_both(other, &net, f);
-            at = self.net_at_next_of(other, &net);
+        let mut at = self.first();
+        let mut there = other.first();
+        while let Some(route) = at {
+            let Some(route_there) = there else {
+                return;
+            };
+            match route.0.cmp_bits(&route_there.0) {
+                Ordering::Less => {
+                    at = self.first_at_or_after(&route_there.0);
+                    there = Some(route_there);
+                }
+                Ordering::Equal => {
+                    call_for_both(&route.0, route.1, route_there.1, f);
+                    there = other.first_after(&route.0);
+                    at = Some(route);
+                }
+                Ordering::Greater => {
+                    there = other.first_at_or_after(&route.0);
+                    at = Some(route);
+                }
+            }
         }
     }
 
@@ -49,29 +78,5 @@ impl<N: Network, T> NetworkTable<N, T> {
             (join self.now other.now) }
     {
         self.intersect_with_by_ref(other, &mut f);
-    }
-
-    // Calls `f` with `net` and both targets, if both tables have it.
-    fn call_if_both<U, F: FnMut(&N, &T, &U)>(&self, other: &NetworkTable<N, U>, net: &N, f: &mut F)
-        requires { TakesIfBoth F.FnMut (λ net. N.bits net.now) f.old (N.bits net.now)
-            (both (lookup (N.bits net.now) self.now) (lookup (N.bits net.now) other.now)) }
-        ensures { CallsIfBoth F.FnMut (λ net. N.bits net.now) f.old (N.bits net.now)
-            (both (lookup (N.bits net.now) self.now) (lookup (N.bits net.now) other.now)) f.new }
-    {
-        if let (Some(target), Some(there)) = (self.get(net), other.get(net)) {
-            f(net, target, there);
-        }
-    }
-
-    // Returns the first network from the next one of `other` after `net` on.
-    fn net_at_next_of<U>(&self, other: &NetworkTable<N, U>, net: &N) -> Option<N>
-        ensures { option_map N.bits result ≡ option_map (λ e. e.0) (slice_get (routes_from
-            (option_map (λ e. e.0) (slice_get (pairs_from false (N.bits net.now) other.now) 0))
-            self.now) 0) }
-    {
-        match other.net_after(net) {
-            Some(there) => self.net_at_or_after(&there),
-            None => None,
-        }
     }
 }
