@@ -32,9 +32,6 @@ module _ {T : Type 0} where
   first-is n (e ∷ es) h = let same : n ≡ e.0 = (let x = h in cc) in
       (e.1, es, ap (λ z. (z, e.1) ∷ es) (sym same))
 
-  pub at-start : (cur : List (List ℕ × T)) (at : Option (List ℕ)) → at ≡ first_key cur → IsSplit cur at [] cur
-  at-start cur at h = record { routes = refl; first = h }
-
   pub at-end : (cur done todo : List (List ℕ × T)) → IsSplit cur None done todo → (todo ≡ []) × (cur ≡ done)
   at-end cur done todo s = let none = no-first todo s.first in
       (none, s.routes ∙ ap (λ z. done ++ z) none ∙ append-nil done)
@@ -64,12 +61,6 @@ module _ {T : Type 0} where
     pub next-first : at ≡ first_key r.rest
     next-first = e ∙ ap (λ z. first_key (pairs_from false n z)) r.routes
         ∙ ap first_key (split-after n r.target done r.rest r.ascends)
-
-    pub at-next : IsSplit cur at (done ++ (n, r.target) ∷ []) r.rest
-    at-next = record {
-      routes = r.routes ∙ sym (append_assoc done ((n, r.target) ∷ []) r.rest);
-      first = next-first;
-    }
 
   -- fewer routes are left
   pub fewer-left : (n : List ℕ) (cur new done kept todo : List (List ℕ × T)) (at : Option (List ℕ)) → IsAscending cur

@@ -1,5 +1,5 @@
 //! The last route.
-ghost use Rattle.std.specs.Prelude.{◌≡◌, ◌≢◌, [], None, option_map, MatchOption};
+ghost use Rattle.std.specs.Prelude.{◌≡◌, [], Some, None, option_map, MatchOption};
 ghost use Rattle.rart_keys.specs.Filters.{last_or};
 ghost use Rattle.rart_keys.specs.SortedMap.{lookup};
 
@@ -16,28 +16,25 @@ impl<N: Network, T> NetworkTable<N, T> {
         ensures { option_map (λ p. (N.bits p.0, p.1.now)) result ≡ last_or None self.now }
     {
         self.ascends();
-        let Some(start) = self.late_net() else {
+        let Some(start) = self.late() else {
             return None;
         };
         let mut last = start;
-        while let Some(net) = self.net_after(&last) {
-            last = net;
+        while let Some(next) = self.first_after(&last.0) {
+            last = next;
         }
-        match self.get(&last) {
-            Some(target) => Some((last, target)),
-            None => None,
-        }
+        Some(last)
     }
 
-    // Returns a network of the last stride, or else the first network.
-    fn late_net(&self) -> Option<N>
+    // Returns a route of the last stride, or else the first route.
+    fn late(&self) -> Option<(N, &T)>
         ensures { MatchOption result (self.now ≡ [])
-            (λ net. lookup (N.bits net) self.now ≢ None) }
+            (λ p. lookup (N.bits p.0) self.now ≡ Some p.1.now) }
     {
         self.ascends();
         match self.routes.late_route() {
-            Some((key, code)) => Some(N::whole().at_code(key.as_ref(), code)),
-            None => self.first_net(),
+            Some((key, code, target)) => Some((N::whole().at_code(key.as_ref(), code), target)),
+            None => self.first(),
         }
     }
 }
