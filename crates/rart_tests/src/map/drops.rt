@@ -1,5 +1,4 @@
 //! Values that count when they are dropped: none is lost, and none is dropped twice.
-
 mod held;
 mod prefixes;
 mod ranges;
